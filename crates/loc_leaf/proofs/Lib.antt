@@ -1,0 +1,10 @@
+pub mod Booleans
+pub mod NumberLaws
+pub mod Stored
+pub mod AreaLaws
+pub mod SlotLaws
+pub mod ValueLaws
+pub mod RowLaws
+pub mod Lanes
+pub mod Table
+pub mod Starred

@@ -1,0 +1,9 @@
+pub mod Bytes
+pub mod Answers
+pub mod Area
+pub mod Kind
+pub mod Slot
+pub mod Rows
+pub mod Cut
+pub mod Block
+pub mod Starred
