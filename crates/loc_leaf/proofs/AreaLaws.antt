@@ -1,12 +1,12 @@
 -- What a store does to an area's size, counted length and pieces.
 -- The laws ask 16 bytes of an area only where they speak of its published length.
-use Prim.Native.Nat.{ℕ, zero, suc, _+_, _-_, _*_, _/_, _%_, _^_, _≤_, _<_, min, max}
+use Prim.Native.Nat.{ℕ, zero, suc, _+_, _*_, _^_, _≤_, _<_, min}
 use mathlib.Core.Path.{_≡_, refl, sym, ap, _∙_}
 use mathlib.Core.List.{List, [], _∷_, _++_, append-assoc, flatten}
 use native.Mathlib.Nat.{mul-zero, mul-suc, zero-add, suc-add, le-of-suc-le-suc, not-suc-le-zero, add-comm, zero-min, min-zero, suc-min-suc}
 use native.Mathlib.Omega.{arith}
 use lib.ListN.{length, take, drop, getD, length-append}
-use lib.Seq.{take-at, drop-at, take-take, drop-drop, take-nil, take-add}
+use lib.Seq.{take-at, drop-at, take-take, drop-drop, take-nil}
 use Rattle.loc_leaf.specs.Bytes.{Bytes, bytes, numberAt, store}
 use Rattle.loc_leaf.specs.Area.{counted, storeLength, storePast, pieces}
 use Rattle.loc_leaf.proofs.Stored.{length-bytes, at-first, length-store, take-store, drop-store, drop-stored}

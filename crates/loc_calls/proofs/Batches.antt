@@ -1,0 +1,206 @@
+-- What the table's tests of a batch leave: valid records, each of which starts where the one before ends, and room for them.
+-- A batch that is not refused and starts where a good list ends makes a longer good list.
+use Prim.Native.Nat.{ℕ, zero, suc, _+_, _*_, _/_, _%_, _^_, _≤_, _<_}
+use mathlib.Core.Path.{_≡_, refl, _∙_}
+use mathlib.Core.Bool.{Bool, true, false, not, _||_}
+use mathlib.Core.List.{List, [], _∷_, _++_, flatten}
+use native.Mathlib.Nat.{suc-ne-zero}
+use native.Mathlib.Omega.{arith}
+use lib.Dec.{leb, ltb, eqb}
+use lib.ListN.{length, replicate}
+use borrow.Author.Tests.{leb-false, ltb-false, eqb-true, eqb-false, not-false}
+use Rattle.loc_leaf.specs.declared.Kind.{Kind}
+use Rattle.loc_leaf.specs.declared.Kind.the-variants.{Paired, Single}
+use Rattle.loc_leaf.specs.Bytes.{Bytes}
+use Rattle.loc_leaf.specs.Answers.{refuse, _orElse_}
+use Rattle.loc_leaf.specs.Slot.{stridesRefusal}
+use Rattle.loc_leaf.proofs.Booleans.{neither-left, neither-right}
+use Rattle.loc_leaf.proofs.AreaLaws.{counted-le}
+use Rattle.loc_leaf.proofs.ValueLaws.{SpansFit}
+use Rattle.loc_calls.specs.Areas.{Three, Areas, sizes, count}
+use Rattle.loc_calls.specs.Table.{Entry, valueOf, bodyAfter, spanAfter, Batch, zipped, entries, spanless, breaks, entryRefusal, entriesRefusal, endPast, batchRefusal}
+use Rattle.loc_calls.specs.Stores.{gather, staged, newEnd, newEnds}
+use Rattle.loc_calls.proofs.Gathered.{ValidEntry, AllValid}
+use Rattle.loc_calls.proofs.Chains.{lens, spans, lens-append, spans-append, Chained, chained-append, Good}
+
+-- ---- refusals
+
+pub orElse-left : (x y : ℕ) → (x orElse y) ≡ 0 → x ≡ 0
+orElse-left zero y h = refl
+orElse-left (suc x) y h = h
+
+pub orElse-right : (x y : ℕ) → (x orElse y) ≡ 0 → y ≡ 0
+orElse-right zero y h = h
+orElse-right (suc x) y h = absurd (suc-ne-zero x h)
+
+pub orElse-zero : (x : ℕ) → (x orElse 0) ≡ x
+orElse-zero zero = refl
+orElse-zero (suc x) = refl
+
+pub refuse-zero : (b : Bool) (n : ℕ) → refuse b (suc n) ≡ 0 → b ≡ false
+refuse-zero true n h = absurd (suc-ne-zero n h)
+refuse-zero false n h = refl
+
+-- ---- valid records
+
+-- a span count as a list of 32-bit numbers brings it; where single there is none
+unfoldable pub SpansOf : Kind → List Entry → Type 0
+SpansOf k [] = Unit
+SpansOf Paired (e ∷ es) = (e .spans < 2 ^ 32) × SpansOf Paired es
+SpansOf Single (e ∷ es) = (e .spans ≡ 0) × SpansOf Single es
+
+-- 8 to 10 leave a valid record
+module _ (k : Kind) (e : Entry) (es : List Entry) (h : entryRefusal k e es ≡ 0) where
+  not-8 : spanless k e ≡ false
+  unfolding entryRefusal
+  not-8 = refuse-zero (spanless k e) 7 (orElse-left (refuse (spanless k e) 8) (stridesRefusal (e .len) orElse breaks e es) h)
+
+  not-9-nor-10 : stridesRefusal (e .len) ≡ 0
+  unfolding entryRefusal
+  not-9-nor-10 = orElse-left (stridesRefusal (e .len)) (breaks e es) (orElse-right (refuse (spanless k e) 8) (stridesRefusal (e .len) orElse breaks e es) h)
+
+  unbroken : breaks e es ≡ 0
+  unfolding entryRefusal
+  unbroken = orElse-right (stridesRefusal (e .len)) (breaks e es) (orElse-right (refuse (spanless k e) 8) (stridesRefusal (e .len) orElse breaks e es) h)
+
+strides-fit : (len : ℕ) → stridesRefusal len ≡ 0 → (len % 8 ≡ 0) × (0 < len / 8) × (len / 8 < 2 ^ 32)
+unfolding stridesRefusal
+strides-fit len h = (whole, omega (arith, whole, there), leb-false (2 ^ 32) (len / 8) (refuse-zero (leb (2 ^ 32) (len / 8)) 9 (orElse-right nine (refuse (leb (2 ^ 32) (len / 8)) 10) h)))
+  where
+    odd : Bool
+    odd = eqb len 0 || not (eqb (len % 8) 0)
+
+    nine : ℕ
+    nine = refuse odd 9
+
+    not-9 : odd ≡ false
+    not-9 = refuse-zero odd 8 (orElse-left nine (refuse (leb (2 ^ 32) (len / 8)) 10) h)
+
+    whole : len % 8 ≡ 0
+    whole = eqb-true (len % 8) 0 (not-false (eqb (len % 8) 0) (neither-right (eqb len 0) (not (eqb (len % 8) 0)) not-9))
+
+    there : len ≡ 0 → ⊥
+    there = eqb-false len 0 (neither-left (eqb len 0) (not (eqb (len % 8) 0)) not-9)
+
+valid-entry : (k : Kind) (e : Entry) (es : List Entry) → entryRefusal k e es ≡ 0 → SpansOf k (e ∷ []) → ValidEntry k e
+unfolding valueOf
+valid-entry k e es h n =
+    let t : (e .len % 8 ≡ 0) × (0 < e .len / 8) × (e .len / 8 < 2 ^ 32) = strides-fit (e .len) (not-9-nor-10 k e es h) in
+    record { whole = t .0; value = record { some = t .1; fits = t .2; spansFit = spans k (not-8 k e es h) n } }
+  where
+    spans : (k : Kind) → spanless k e ≡ false → SpansOf k (e ∷ []) → SpansFit k (e .spans)
+    spans Paired t n = unfold SpansFit SpansOf spanless in (let z : e .spans ≡ 0 → ⊥ = eqb-false (e .spans) 0 t in (omega arith, n .0))
+    spans Single t n = unfold SpansFit SpansOf in n .0
+
+pub all-valid : (k : Kind) (es : List Entry) → entriesRefusal k es ≡ 0 → SpansOf k es → AllValid k es
+unfolding entriesRefusal AllValid
+all-valid k [] h n = tt
+all-valid k (e ∷ es) h n = (
+  valid-entry k e es (orElse-left (entryRefusal k e es) (entriesRefusal k es) h) (first k n),
+  all-valid k es (orElse-right (entryRefusal k e es) (entriesRefusal k es) h) (rest k n),
+)
+  where
+    first : (k : Kind) → SpansOf k (e ∷ es) → SpansOf k (e ∷ [])
+    first Paired n = unfold SpansOf in (n .0, tt)
+    first Single n = unfold SpansOf in (n .0, tt)
+
+    rest : (k : Kind) → SpansOf k (e ∷ es) → SpansOf k es
+    rest Paired n = unfold SpansOf in n .1
+    rest Single n = unfold SpansOf in n .1
+
+-- a single batch brings no spans, and says that they start at 16
+zipped-spans : (ss ls ps : List ℕ) (n : ℕ) → SpansOf Single (zipped ss ls ps (replicate n 0))
+unfolding SpansOf zipped
+zipped-spans [] ls ps n = tt
+zipped-spans (s ∷ ss) [] ps n = tt
+zipped-spans (s ∷ ss) (l ∷ ls) [] n = tt
+zipped-spans (s ∷ ss) (l ∷ ls) (p ∷ ps) zero = tt
+zipped-spans (s ∷ ss) (l ∷ ls) (p ∷ ps) (suc n) = (refl, zipped-spans ss ls ps n)
+
+pub single-spans : (b : Batch) → SpansOf Single (entries Single b)
+unfolding entries
+single-spans b = zipped-spans (b .starts) (b .lens) (replicate (length (b .lens)) 16) (length (b .lens))
+
+-- ---- a chain
+
+-- 11 and 12 leave a chain
+chain-step : (e d : Entry) (ds : List Entry) → breaks e (d ∷ ds) ≡ 0 → (d .start ≡ bodyAfter e) × (d .spanStart ≡ spanAfter e)
+unfolding breaks
+chain-step e d ds h = (
+  equal (d .start) (bodyAfter e) 10 (orElse-left (refuse (not (eqb (d .start) (bodyAfter e))) 11) (refuse (not (eqb (d .spanStart) (spanAfter e))) 12) h),
+  equal (d .spanStart) (spanAfter e) 11 (orElse-right (refuse (not (eqb (d .start) (bodyAfter e))) 11) (refuse (not (eqb (d .spanStart) (spanAfter e))) 12) h),
+)
+  where
+    equal : (x y n : ℕ) → refuse (not (eqb x y)) (suc n) ≡ 0 → x ≡ y
+    equal x y n t = eqb-true x y (not-false (eqb x y) (refuse-zero (not (eqb x y)) n t))
+
+chain-of : (k : Kind) (b s : ℕ) (e : Entry) (es : List Entry) → entriesRefusal k (e ∷ es) ≡ 0 → e .start ≡ b → e .spanStart ≡ s
+    → b + lens (e ∷ es) < 2 ^ 64 → s + 8 * spans (e ∷ es) < 2 ^ 64 → Chained b s (e ∷ es)
+unfolding Chained lens spans
+chain-of k b s e [] h p q hb hs = (p, q, tt)
+chain-of k b s e (d ∷ ds) h p q hb hs = (
+  p,
+  q,
+  chain-of k (b + e .len) (s + 8 * e .spans) d ds rest (next-body (chain-step e d ds links)) (next-span (chain-step e d ds links)) (omega arith) (omega arith),
+)
+  where
+    rest : entriesRefusal k (d ∷ ds) ≡ 0
+    rest = unfold entriesRefusal in orElse-right (entryRefusal k e (d ∷ ds)) (entriesRefusal k (d ∷ ds)) h
+
+    links : breaks e (d ∷ ds) ≡ 0
+    links = unfold entriesRefusal in unbroken k e (d ∷ ds) (orElse-left (entryRefusal k e (d ∷ ds)) (entriesRefusal k (d ∷ ds)) h)
+
+    next-body : (d .start ≡ bodyAfter e) × (d .spanStart ≡ spanAfter e) → d .start ≡ b + e .len
+    next-body t = unfold bodyAfter in (t .0 ∙ omega arith)
+
+    next-span : (d .start ≡ bodyAfter e) × (d .spanStart ≡ spanAfter e) → d .spanStart ≡ s + 8 * e .spans
+    next-span t = unfold spanAfter in (t .1 ∙ omega arith)
+
+-- a batch that is not refused, starts where a good list ends and ends below 2^64, makes it longer
+pub good-append : (k : Kind) (E : List Entry) (e : Entry) (es : List Entry) → Good E → entriesRefusal k (e ∷ es) ≡ 0
+    → e .start ≡ 16 + lens E → e .spanStart ≡ 16 + 8 * spans E → 16 + lens (E ++ (e ∷ es)) < 2 ^ 64 → 16 + 8 * spans (E ++ (e ∷ es)) < 2 ^ 64 → Good (E ++ (e ∷ es))
+good-append k E e es g h p q hb hs = record {
+  chained =
+      chained-append 16 16 E (e ∷ es) (16 + lens E) (16 + 8 * spans E) refl refl (g .chained)
+      (chain-of k (16 + lens E) (16 + 8 * spans E) e es h p q (omega (arith, lens-append E (e ∷ es))) (omega (arith, spans-append E (e ∷ es))));
+  body = hb;
+  span = hs;
+}
+
+-- ---- room
+
+-- 13 leaves new ends within their areas
+pub record Fits (a : Areas) (b : Three (List Bytes)) : Type 0 where
+  pub slots : newEnd (a .slots) (b .slots) ≤ length (a .slots)
+  pub rows : newEnd (a .rows) (b .rows) ≤ length (a .rows)
+  pub checkpoints : newEnd (a .checkpoints) (b .checkpoints) ≤ length (a .checkpoints)
+
+none-past : (x y : Three ℕ) → endPast x y ≡ false → (x .slots ≤ y .slots) × (x .rows ≤ y .rows) × (x .checkpoints ≤ y .checkpoints)
+unfolding endPast
+none-past x y h = (
+  ltb-false _ _ (neither-left (ltb (y .slots) (x .slots)) (ltb (y .rows) (x .rows)) first-two),
+  ltb-false _ _ (neither-right (ltb (y .slots) (x .slots)) (ltb (y .rows) (x .rows)) first-two),
+  ltb-false _ _ (neither-right (ltb (y .slots) (x .slots) || ltb (y .rows) (x .rows)) (ltb (y .checkpoints) (x .checkpoints)) h),
+)
+  where
+    first-two : (ltb (y .slots) (x .slots) || ltb (y .rows) (x .rows)) ≡ false
+    first-two = neither-left (ltb (y .slots) (x .slots) || ltb (y .rows) (x .rows)) (ltb (y .checkpoints) (x .checkpoints)) h
+
+pub batch-tested : (k : Kind) (ends size : Three ℕ) (es : List Entry) → batchRefusal k ends size es ≡ 0 → entriesRefusal k es ≡ 0
+unfolding batchRefusal entriesRefusal
+batch-tested k ends size [] h = refl
+batch-tested k ends size (e ∷ es) h = orElse-left (entriesRefusal k (e ∷ es)) (refuse (endPast ends size) 13) h
+
+pub batch-fits : (k : Kind) (a : Areas) (es : List Entry) → batchRefusal k (newEnds k a es) (sizes a) es ≡ 0 → Fits a (staged k (count a) es)
+unfolding batchRefusal gather staged newEnd newEnds flatten
+batch-fits k a [] h = record { slots = omega (arith, counted-le (a .slots)); rows = omega (arith, counted-le (a .rows)); checkpoints = omega (arith, counted-le (a .checkpoints)) }
+batch-fits k a (e ∷ es) h = record { slots = room .0; rows = room .1; checkpoints = room .2 }
+  where
+    ends : Three ℕ
+    ends = newEnds k a (e ∷ es)
+
+    inside : endPast ends (sizes a) ≡ false
+    inside = refuse-zero (endPast ends (sizes a)) 12 (orElse-right (entriesRefusal k (e ∷ es)) (refuse (endPast ends (sizes a)) 13) h)
+
+    room : (ends .slots ≤ length (a .slots)) × (ends .rows ≤ length (a .rows)) × (ends .checkpoints ≤ length (a .checkpoints))
+    room = unfold sizes in none-past ends (sizes a) inside

@@ -1,0 +1,188 @@
+-- Single calls computed whole from the definitions: every number of the table, and each call's bytes at each of its places.
+-- One proposition conjoins them.
+use Prim.Native.Nat.{ℕ, _+_, _*_, _^_, _-_}
+use mathlib.Core.Path.{_≡_, refl}
+use mathlib.Core.List.{List, [], _∷_, _++_, flatten}
+use lib.ListN.{replicate}
+use Rattle.loc_leaf.specs.declared.Kind.{Kind}
+use Rattle.loc_leaf.specs.declared.Kind.the-variants.{Paired, Single}
+use Rattle.loc_leaf.specs.Bytes.{Bytes, number, bytes, numberAt, store}
+use Rattle.loc_leaf.specs.Answers.{answer}
+use Rattle.loc_leaf.specs.Area.{counted, storeLength, storePast, pieces, fill, published}
+use Rattle.loc_leaf.specs.Slot.{stridesRefusal, slot, needsRow, inline, slotAt, checkpointRule}
+use Rattle.loc_leaf.specs.Rows.{row, rowNumber, rowValue, rowList, ascending, lastNumber, rowsUpTo, rowFor, hasRow, lookup, slotValue}
+use Rattle.loc_leaf.specs.Cut.{matches, cuts, cutFor}
+use Rattle.loc_calls.specs.Areas.{Three, each, Areas, sizes, count}
+use Rattle.loc_calls.specs.Table.{valueOf, bodyAfter, spanAfter, Call, opening, append, truncate, read, zipped, entries, uneven, spanless, breaks, entryRefusal, entriesRefusal, endPast, batchRefusal, table}
+use Rattle.loc_calls.specs.Stores.{step, run, differing, truncatePlaces, nextRow, holdsNext, cutRule, ruledCount, ruled, openPlaces, ragged, openRefusal, stores, anyStores, settled, checkpoint, gather, rowOf, checkpointOf, staged, newEnd, newEnds, appendPlaces}
+use Rattle.loc_calls.specs.Reading.{sumAfter, allAfter, lookupAt, has, valueIn, valueAt, stridesAfter, spansAfter, checkpointAt, windowEnd, lookedAt, within, rowMissing, anyMissing, words, wordsFor, answered, found}
+use Rattle.loc_calls.specs.Audit.{bodySum, spanSum, checkpointSound, sound}
+use Rattle.loc_calls.specs.Calls.{unlessRefused, tooSmall, unread, isOpening, refusal, places, placeCount, value, lent, buffer, areasAfter, call, createPlaces, create, audit}
+
+-- ---- areas
+
+-- an area whose stored length is n, with these bytes from 16 on
+abbrev area : ℕ → Bytes → Bytes
+area n bs = replicate 8 9 ++ (bytes 8 n ++ bs)
+
+abbrev three : Bytes → Bytes → Bytes → Areas
+three s r c = record { slots = s; rows = r; checkpoints = c }
+
+-- all that an append of two records needs, nothing published
+abbrev empty : Areas
+empty = three (area 16 (replicate 4 7)) (area 16 (replicate 16 7)) (area 16 [])
+
+-- what it leaves
+abbrev slots2 : Bytes
+slots2 = 5 ∷ 3 ∷ 0 ∷ 1 ∷ []
+
+abbrev row2 : Bytes
+row2 = 2 ∷ 0 ∷ 0 ∷ 0 ∷ 0 ∷ 0 ∷ 0 ∷ 0 ∷ 0 ∷ 1 ∷ 0 ∷ 0 ∷ 1 ∷ 0 ∷ 0 ∷ 0 ∷ []
+
+abbrev full : Areas
+full = three (area 20 slots2) (area 32 row2) (area 16 [])
+
+-- the same without its row
+abbrev rowless : Areas
+rowless = three (area 20 slots2) (area 16 []) (area 16 [])
+
+-- ---- calls
+
+abbrev batch : List ℕ → List ℕ → List ℕ → List ℕ → Call
+batch s l p c = append (record { starts = s; lens = l; spanStarts = p; spanCounts = c })
+
+-- document 01's listing: body lengths 40 and 2,048 with 3 and 1 spans
+abbrev two : Call
+two = batch (16 ∷ 56 ∷ []) (40 ∷ 2048 ∷ []) (16 ∷ 40 ∷ []) (3 ∷ 1 ∷ [])
+
+abbrev numberOf : Kind → Call → Areas → ℕ
+numberOf k c a = ((call k (placeCount c) c a) .answer) .number
+
+abbrev after : Kind → ℕ → Call → Areas → Areas
+after k s c a = (call k s c a) .areas
+
+abbrev lengths : Areas → Three ℕ
+lengths a = each counted a
+
+-- the row (n, 300, 5)
+abbrev row300 : ℕ → Bytes
+row300 n = n ∷ 0 ∷ 0 ∷ 0 ∷ 0 ∷ 0 ∷ 0 ∷ 0 ∷ 44 ∷ 1 ∷ 0 ∷ 0 ∷ 5 ∷ 0 ∷ 0 ∷ 0 ∷ []
+
+-- one record and the row (1, 300, 5) behind the published rows; the slot (44, 0) with that row
+abbrev behind : ℕ → ℕ → Areas
+behind x y = three (area 18 (x ∷ y ∷ [])) (area 16 (row300 1)) (area 16 [])
+
+abbrev mixed : Areas
+mixed = three (area 18 (44 ∷ 0 ∷ [])) (area 32 (row300 1)) (area 16 [])
+
+-- a published row 7 above the count, and behind it the row of record 1
+abbrev surplus : ℕ → Areas
+surplus n = three (area 18 (0 ∷ 5 ∷ [])) (area n (row300 7 ++ row300 1)) (area 16 [])
+
+-- 1,023 records of length 40 with 5 spans, and the next, which has a row and a checkpoint
+abbrev edge : Areas
+edge = three (area 2062 (replicate 2046 5 ++ (7 ∷ 7 ∷ []))) (area 16 (replicate 16 7)) (area 16 (replicate 16 7))
+
+abbrev last : Call
+last = batch ((16 + 1023 * 40) ∷ []) (2048 ∷ []) ((16 + 1023 * 40) ∷ []) (5 ∷ [])
+
+-- more than a window: 1,026 records of length 40 with 5 spans, and checkpoint 1 after 1,024
+abbrev wide : Areas
+wide = three (area 2068 (replicate 2052 5)) (area 16 []) (area 32 (bytes 8 (16 + 1024 * 40) ++ bytes 8 (16 + 8 * (1024 * 5))))
+
+-- ---- every number of the table, 1 to 17
+
+abbrev numbers : List ℕ
+numbers =
+    numberOf Paired opening (three (replicate 15 0) (area 16 []) (area 16 []))
+    ∷ numberOf Paired opening (three (area 17 (0 ∷ 0 ∷ [])) (area 16 []) (area 16 []))
+    ∷ numberOf Single opening (three (area 16 []) (area 16 []) (area 20 (replicate 8 1)))
+    ∷ numberOf Single opening (three (area 16 []) (area 17 (replicate 12 1)) (area 16 []))
+    ∷ numberOf Paired opening (three (area 16 []) (area 32 (replicate 16 0)) (area 16 []))
+    ∷ numberOf Paired (truncate 0) (behind 0 5)
+    ∷ numberOf Paired (batch (16 ∷ []) [] [] []) empty
+    ∷ numberOf Paired (batch (16 ∷ []) (12 ∷ []) (16 ∷ []) (0 ∷ [])) empty
+    ∷ numberOf Paired (batch (16 ∷ []) (12 ∷ []) (16 ∷ []) (1 ∷ [])) empty
+    ∷ numberOf Single (batch (16 ∷ []) ((2 ^ 64 - 8) ∷ []) [] []) empty
+    ∷ numberOf Single (batch (16 ∷ 32 ∷ []) (8 ∷ 8 ∷ []) [] []) empty
+    ∷ numberOf Paired (batch (16 ∷ 24 ∷ []) (8 ∷ 8 ∷ []) (16 ∷ 16 ∷ []) (1 ∷ 0 ∷ [])) empty
+    ∷ numberOf Paired (batch (16 ∷ 24 ∷ 32 ∷ []) (8 ∷ 8 ∷ 8 ∷ []) (16 ∷ 24 ∷ 32 ∷ []) (1 ∷ 1 ∷ 1 ∷ [])) empty
+    ∷ numberOf Paired (truncate 3) full
+    ∷ numberOf Paired (read (replicate 1025 1) []) full
+    ∷ numberOf Paired (read (0 ∷ []) (9 ∷ [])) full
+    ∷ numberOf Paired (read (2 ∷ []) (replicate 6 9)) rowless
+    ∷ []
+
+-- ---- what is computed
+
+pub record Computed : Type 0 where
+  -- each number in turn
+  refusals : numbers ≡ 1 ∷ 2 ∷ 3 ∷ 4 ∷ 5 ∷ 6 ∷ 7 ∷ 8 ∷ 9 ∷ 10 ∷ 11 ∷ 12 ∷ 13 ∷ 14 ∷ 15 ∷ 16 ∷ 17 ∷ []
+  -- create stores three lengths; a refusal leaves all as it was
+  creates : create (three (replicate 16 3) (replicate 17 3) (replicate 18 3))
+      ≡ record { answer = record { number = 0; value = 0 }; buffer = []; areas = three (replicate 8 3 ++ bytes 8 16) (replicate 8 3 ++ (bytes 8 16 ++ (3 ∷ []))) (replicate 8 3 ++ (bytes 8 16 ++ (3 ∷ 3 ∷ []))) }
+  refuses : call Paired 4 (batch (16 ∷ []) (12 ∷ []) (16 ∷ []) (1 ∷ [])) empty ≡ record { answer = record { number = 9; value = 0 }; buffer = []; areas = empty }
+  -- an append: bytes, then the lengths of slots and rows; no checkpoint
+  append-0 : after Paired 0 two empty ≡ empty
+  append-1 : after Paired 1 two empty ≡ three (area 16 slots2) (area 16 row2) (area 16 [])
+  append-2 : after Paired 2 two empty ≡ three (area 20 slots2) (area 16 row2) (area 16 [])
+  append-4 : call Paired 4 two empty ≡ record { answer = record { number = 0; value = 2 }; buffer = []; areas = full }
+  -- the record 1,024 of an append gets its slot, its row, its checkpoint
+  edge-2 : lengths (after Paired 2 last edge) ≡ record { slots = 2064; rows = 16; checkpoints = 16 }
+  edge-3 : lengths (after Paired 3 last edge) ≡ record { slots = 2064; rows = 32; checkpoints = 16 }
+  edge-4 : (after Paired 4 last edge) .checkpoints ≡ area 32 (bytes 8 (16 + 1023 * 40 + 2048) ++ bytes 8 (16 + 1024 * 40))
+  -- a truncation drops the row before the slot
+  truncate-1 : after Paired 1 (truncate 1) full ≡ full
+  truncate-2 : after Paired 2 (truncate 1) full ≡ three (area 20 slots2) (area 16 row2) (area 16 [])
+  truncate-3 : call Paired 3 (truncate 1) full ≡ record { answer = record { number = 0; value = 1 }; buffer = []; areas = three (area 18 slots2) (area 16 row2) (area 16 []) }
+  -- an opening cuts at a row that matches, and at no other; a row above the count is dropped first
+  cuts-it : call Paired 6 opening (behind 0 5) ≡ record { answer = record { number = 0; value = 0 }; buffer = []; areas = three (area 16 (0 ∷ 5 ∷ [])) ((behind 0 5) .rows) (area 16 []) }
+  keeps-it : call Paired 6 opening (behind 44 0) ≡ record { answer = record { number = 0; value = 1 }; buffer = []; areas = behind 44 0 }
+  drops-it : call Paired 6 opening (surplus 32) ≡ record { answer = record { number = 0; value = 1 }; buffer = []; areas = surplus 16 }
+  -- a lacking checkpoint keeps 1,023
+  lacks-it : (call Paired 6 opening (three (wide .slots) (wide .rows) (area 16 []))) .answer ≡ record { number = 0; value = 1023 }
+  -- a stored 5 that counts as 16 stays
+  stays : call Single 6 opening (three (area 5 []) (area 16 []) (area 16 [])) ≡ record { answer = record { number = 0; value = 0 }; buffer = []; areas = three (area 5 []) (area 16 []) (area 16 []) }
+  -- a reading: a row, nothing for 0 and past the count, and words past the answers untouched
+  reads : call Paired 0 (read (2 ∷ 0 ∷ 1 ∷ 3 ∷ []) (replicate 26 9)) full
+      ≡ record { answer = record { number = 0; value = 2 }; buffer = 1 ∷ 56 ∷ 2048 ∷ 40 ∷ 8 ∷ 1 ∷ 0 ∷ 0 ∷ 0 ∷ 0 ∷ 0 ∷ 0 ∷ 1 ∷ 16 ∷ 40 ∷ 16 ∷ 24 ∷ 3 ∷ 0 ∷ 0 ∷ 0 ∷ 0 ∷ 0 ∷ 0 ∷ 9 ∷ 9 ∷ []; areas = full }
+  -- both values of a mixed slot come from its row
+  believes : (call Paired 0 (read (1 ∷ []) (replicate 6 9)) mixed) .buffer ≡ 1 ∷ 16 ∷ 2400 ∷ 16 ∷ 40 ∷ 5 ∷ []
+  -- a paired reading does not look at slots after the last wanted number, a single one at the whole window
+  looks-before : (call Paired 0 (read (1 ∷ []) (replicate 6 9)) rowless) .answer ≡ record { number = 0; value = 1 }
+  looks-around : (call Single 0 (read (1 ∷ []) (replicate 3 9)) (three (area 20 (5 ∷ 3 ∷ 0 ∷ 0 ∷ [])) (area 16 []) (area 16 []))) .answer ≡ record { number = 17; value = 0 }
+  -- over a window's edge, from the checkpoint on
+  reads-on : (call Paired 0 (read (1026 ∷ 1025 ∷ []) (replicate 12 9)) wide) .buffer ≡ 1 ∷ 41016 ∷ 40 ∷ 41016 ∷ 40 ∷ 5 ∷ 1 ∷ 40976 ∷ 40 ∷ 40976 ∷ 40 ∷ 5 ∷ []
+  -- sound, and not: a row is lacking
+  audits : (audit Paired full) .answer ≡ record { number = 0; value = 1 }
+  audits-not : (audit Paired rowless) .answer ≡ record { number = 0; value = 0 }
+
+pub computed : Computed
+unfolding number bytes numberAt store answer counted storeLength storePast pieces fill published stridesRefusal slot needsRow inline slotAt checkpointRule row rowNumber rowValue rowList ascending lastNumber rowsUpTo rowFor hasRow lookup slotValue matches cuts cutFor sizes count valueOf bodyAfter spanAfter zipped entries uneven spanless breaks entryRefusal entriesRefusal endPast batchRefusal table step run differing truncatePlaces nextRow holdsNext cutRule ruledCount ruled openPlaces ragged openRefusal stores anyStores settled checkpoint gather rowOf checkpointOf staged newEnd newEnds appendPlaces sumAfter allAfter lookupAt has valueIn valueAt stridesAfter spansAfter checkpointAt windowEnd lookedAt within rowMissing anyMissing words wordsFor answered found bodySum spanSum checkpointSound sound unlessRefused tooSmall unread isOpening refusal places value lent buffer areasAfter call createPlaces create audit flatten
+computed = record {
+  refusals = refl;
+  creates = refl;
+  refuses = refl;
+  append-0 = refl;
+  append-1 = refl;
+  append-2 = refl;
+  append-4 = refl;
+  edge-2 = refl;
+  edge-3 = refl;
+  edge-4 = refl;
+  truncate-1 = refl;
+  truncate-2 = refl;
+  truncate-3 = refl;
+  cuts-it = refl;
+  keeps-it = refl;
+  drops-it = refl;
+  lacks-it = refl;
+  stays = refl;
+  reads = refl;
+  believes = refl;
+  looks-before = refl;
+  looks-around = refl;
+  reads-on = refl;
+  audits = refl;
+  audits-not = refl;
+}

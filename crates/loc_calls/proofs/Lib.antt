@@ -1,0 +1,11 @@
+pub mod Gathered
+pub mod Holds
+pub mod State
+pub mod Opening
+pub mod Settled
+pub mod Chains
+pub mod Batches
+pub mod Appending
+pub mod Reading
+pub mod Audited
+pub mod Examples

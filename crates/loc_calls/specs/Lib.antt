@@ -1,0 +1,6 @@
+pub mod Areas
+pub mod Table
+pub mod Stores
+pub mod Reading
+pub mod Audit
+pub mod Calls

@@ -1,0 +1,7 @@
+pub mod BookLaws
+pub mod Steady
+pub mod Following
+pub mod Calls
+pub mod History
+pub mod Kept
+pub mod Examples
