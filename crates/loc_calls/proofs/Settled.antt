@@ -6,7 +6,7 @@ use mathlib.Core.Bool.{true, false, not}
 use mathlib.Core.List.{List, [], _∷_}
 use native.Mathlib.Nat.{le-refl, not-suc-le-zero, le-of-suc-le-suc}
 use native.Mathlib.Omega.{arith}
-use lib.ListN.{length, take}
+use lib.ListN.{length, take, getD}
 use borrow.Author.Tests.{le-ltb, eq-eqb}
 use Rattle.loc_leaf.specs.declared.Kind.{Kind}
 use Rattle.loc_leaf.specs.Bytes.{Bytes}
@@ -49,6 +49,14 @@ unfolding run
 run-all s [] a h = run-nil s a
 run-all zero (p ∷ ps) a h = absurd (not-suc-le-zero h)
 run-all (suc s) (p ∷ ps) a h = run-all s ps (step p a) (le-of-suc-le-suc h)
+
+-- one place more
+pub run-next : (i : ℕ) (ps : List Place) (a : Areas) → run (suc i) ps a ≡ step (getD ps i keep) (run i ps a)
+unfolding run step
+run-next zero [] a = refl
+run-next zero (p ∷ ps) a = refl
+run-next (suc i) [] a = refl
+run-next (suc i) (p ∷ ps) a = run-next i ps (step p a)
 
 pub length-places : (k : Kind) (c : Call) (a : Areas) → length (places k c a) ≡ placeCount c
 unfolding places openPlaces truncatePlaces appendPlaces

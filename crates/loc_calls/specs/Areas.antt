@@ -25,6 +25,10 @@ some x = x .slots || x .rows || x .checkpoints
 abbrev pub Areas : Type 0
 Areas = Three Bytes
 
+-- three lent lists of bytes as the areas
+abbrev pub areas : Bytes → Bytes → Bytes → Areas
+areas s r c = record { slots = s; rows = r; checkpoints = c }
+
 unfoldable pub sizes : Areas → Three ℕ
 sizes a = each length a
 

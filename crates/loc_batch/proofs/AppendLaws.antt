@@ -1,0 +1,141 @@
+-- The places of an append, in the form in which the code meets them.
+-- A part that was lent comes back as a store in the whole.
+use Prim.Native.Nat.{ℕ, zero, suc, _+_, _-_, _*_, _/_, _%_, _^_, _≤_, _<_, min}
+use mathlib.Core.Path.{_≡_, refl, sym, ap, _∙_}
+use mathlib.Core.Bool.{Bool, true, false, cond}
+use mathlib.Core.List.{List, [], _∷_, _++_, append-nil, flatten}
+use native.Mathlib.Nat.{add-zero, add-suc}
+use native.Mathlib.Numerals.{add-one}
+use native.Mathlib.Omega.{arith}
+use native.Mathlib.Decide.{decLe}
+use lib.Dec.{eqb}
+use lib.ListN.{length, take, drop, set, getD, take-append-drop, length-drop, drop-of-length-le}
+use lib.Seq.{sets, take-set-le, drop-set-add}
+use borrow.Rule.Slice.PartMut.{putMid}
+use borrow.Author.Tests.{eq-eqb, ne-eqb}
+use Rattle.loc_leaf.specs.declared.Kind.{Kind}
+use Rattle.loc_leaf.specs.Bytes.{Bytes, store}
+use Rattle.loc_leaf.specs.Area.{counted, storeLength, storePast}
+use Rattle.loc_leaf.proofs.NumberLaws.{part-all}
+use Rattle.loc_leaf.proofs.AreaLaws.{counted-le}
+use Rattle.loc_calls.specs.Areas.{Areas, each, areas}
+use Rattle.loc_calls.specs.Table.{Entry}
+use Rattle.loc_calls.specs.Stores.{Place, keep, slotLength, rowLength, checkpointLength, write, step, run, gather, slotOf, rowOf, checkpointOf, staged}
+use Rattle.loc_calls.proofs.Settled.{run-next, run-all}
+use Rattle.loc_batch.specs.Lists.{Room, Staged}
+use Rattle.loc_batch.specs.Plans.{growing, grown, stagePlaces, RoomPast, Ready}
+use Rattle.loc_batch.specs.declared.Stage.{Stage}
+
+-- ---- a part that was lent
+
+store-tail : (xs : Bytes) (a j : ℕ) (vs : Bytes) → take a xs ++ store j vs (drop a xs) ≡ store (a + j) vs xs
+unfolding store
+store-tail xs a j [] = take-append-drop a xs
+store-tail xs a j (v ∷ vs) =
+    let h : a ≤ a + j = omega arith in
+    let p : take a (set xs (a + j) v) ≡ take a xs = take-set-le a xs (a + j) v h in
+    rw (← drop-set-add a xs j v, ← p, ← add-suc) (store-tail (set xs (a + j) v) a (suc j) vs)
+
+-- what a writer says of the part from `end` on, said of the whole
+lent : (xs : Bytes) (end : ℕ) (vs ys : Bytes) → end ≡ counted xs → ys ≡ store 0 vs (take (length xs - end) (drop end xs)) → putMid end (length xs - end) xs ys ≡ storePast vs xs
+unfolding storePast
+lent xs end vs ys e q =
+    let d : length (drop end xs) ≤ length xs - end = rw length-drop (omega arith) in
+    let p : ys ≡ store 0 vs (drop end xs) = rw (part-all end xs) at q in
+    rw (drop-of-length-le (drop end xs) d, append-nil, p, store-tail xs end 0 vs, add-zero, ← e) refl
+
+module _ (k : Kind) (base : ℕ) (es : List Entry) (slots rows checkpoints : Bytes) (x y z : ℕ) (ex : x ≡ counted slots) (ey : y ≡ counted rows) (ez : z ≡ counted checkpoints) where
+  pub lent-room : (n : ℕ) → RoomPast k base n es (areas slots rows checkpoints)
+      → Room k base n es (length (take (length slots - x) (drop x slots))) (length (take (length rows - y) (drop y rows))) (length (take (length checkpoints - z) (drop z checkpoints)))
+  unfolding RoomPast
+  lent-room n r = rw (part-all x slots, part-all y rows, part-all z checkpoints, length-drop x slots, length-drop y rows, length-drop z checkpoints, ex, ey, ez) r
+
+  pub bytes-written : (a b c : Bytes) → Staged k base es (take (length slots - x) (drop x slots)) (take (length rows - y) (drop y rows)) (take (length checkpoints - z) (drop z checkpoints)) a b c
+      → areas (putMid x (length slots - x) slots a) (putMid y (length rows - y) rows b) (putMid z (length checkpoints - z) checkpoints c)
+      ≡ step (write (each flatten (staged k base es))) (areas slots rows checkpoints)
+  unfolding step staged
+  bytes-written a b c s = rw (lent slots x (flatten (gather (slotOf k) base es)) a ex (s .isSlots), lent rows y (flatten (gather (rowOf k) base es)) b ey (s .isRows), lent checkpoints z (flatten (gather (checkpointOf k) base es)) c ez (s .isCheckpoints)) refl
+
+-- ---- lengths
+
+module _ (xs : Bytes) (old new : ℕ) where
+  pub grown-same : new ≡ old → xs ≡ grown old new xs
+  unfolding grown
+  grown-same h = rw (eq-eqb new old h) refl
+
+  pub grown-other : (ys : Bytes) → (new ≡ old → ⊥) → ys ≡ storeLength new xs → ys ≡ grown old new xs
+  unfolding grown
+  grown-other ys h q = rw (ne-eqb new old h) q
+
+-- ---- the places
+
+step-growing-slots : (s r c : Bytes) (old new : ℕ) → step (growing slotLength old new) (areas s r c) ≡ areas (grown old new s) r c
+unfolding step growing grown
+step-growing-slots s r c old new = go (eqb new old)
+  where
+    go : (b : Bool) → step (cond b keep (slotLength new)) (areas s r c) ≡ areas (cond b s (storeLength new s)) r c
+    go true = refl
+    go false = refl
+
+step-growing-rows : (s r c : Bytes) (old new : ℕ) → step (growing rowLength old new) (areas s r c) ≡ areas s (grown old new r) c
+unfolding step growing grown
+step-growing-rows s r c old new = go (eqb new old)
+  where
+    go : (b : Bool) → step (cond b keep (rowLength new)) (areas s r c) ≡ areas s (cond b r (storeLength new r)) c
+    go true = refl
+    go false = refl
+
+step-growing-checkpoints : (s r c : Bytes) (old new : ℕ) → step (growing checkpointLength old new) (areas s r c) ≡ areas s r (grown old new c)
+unfolding step growing grown
+step-growing-checkpoints s r c old new = go (eqb new old)
+  where
+    go : (b : Bool) → step (cond b keep (checkpointLength new)) (areas s r c) ≡ areas s r (cond b c (storeLength new c))
+    go true = refl
+    go false = refl
+
+module _ (k : Kind) (es : List Entry) (t : Stage) (p : ℕ) (s r c : Bytes) where
+  pub place-bytes : (x y z : Bytes) → p ≡ 0 → areas x y z ≡ step (write (each flatten (staged k (t .base) es))) (areas s r c) → areas x y z ≡ step (getD (stagePlaces k es t) p keep) (areas s r c)
+  unfolding stagePlaces
+  place-bytes x y z e q = rw e q
+
+  pub place-slots : (x : Bytes) → p ≡ 1 → x ≡ grown (t .old .slots) (t .new .slots) s → areas x r c ≡ step (getD (stagePlaces k es t) p keep) (areas s r c)
+  unfolding stagePlaces
+  place-slots x e q = rw (e, q) (sym (step-growing-slots s r c (t .old .slots) (t .new .slots)))
+
+  pub place-rows : (x : Bytes) → p ≡ 2 → x ≡ grown (t .old .rows) (t .new .rows) r → areas s x c ≡ step (getD (stagePlaces k es t) p keep) (areas s r c)
+  unfolding stagePlaces
+  place-rows x e q = rw (e, q) (sym (step-growing-rows s r c (t .old .rows) (t .new .rows)))
+
+  pub place-checkpoints : (x : Bytes) → p ≡ 3 → x ≡ grown (t .old .checkpoints) (t .new .checkpoints) c → areas s r x ≡ step (getD (stagePlaces k es t) p keep) (areas s r c)
+  unfolding stagePlaces
+  place-checkpoints x e q = rw (e, q) (sym (step-growing-checkpoints s r c (t .old .checkpoints) (t .new .checkpoints)))
+
+  pub place-none : (p ≡ 0 → ⊥) → (p ≡ 1 → ⊥) → (p ≡ 2 → ⊥) → (p ≡ 3 → ⊥) → areas s r c ≡ step (getD (stagePlaces k es t) p keep) (areas s r c)
+  unfolding stagePlaces step
+  place-none h₀ h₁ h₂ h₃ = go p h₀ h₁ h₂ h₃
+    where
+      go : (q : ℕ) → (q ≡ 0 → ⊥) → (q ≡ 1 → ⊥) → (q ≡ 2 → ⊥) → (q ≡ 3 → ⊥) → areas s r c ≡ step (getD (stagePlaces k es t) q keep) (areas s r c)
+      go zero a b d e = absurd (a refl)
+      go (suc zero) a b d e = absurd (b refl)
+      go (suc (suc zero)) a b d e = absurd (d refl)
+      go (suc (suc (suc zero))) a b d e = absurd (e refl)
+      go (suc (suc (suc (suc q)))) a b d e = refl
+
+-- ---- the run
+
+module _ (ps : List Place) (i : ℕ) (s r c : Bytes) (a : Areas) (inv : areas s r c ≡ run i ps a) where
+  -- the bytes are written before anything else
+  pub room-first : (k : Kind) (base n : ℕ) (es : List Entry) → RoomPast k base n es a → i ≡ 0 → RoomPast k base n es (areas s r c)
+  unfolding run
+  room-first k base n es h z = let q : areas s r c ≡ a = rw z at inv in rw q h
+
+  pub run-turn : (b : Areas) → b ≡ step (getD ps i keep) (areas s r c) → b ≡ run (i + 1) ps a
+  run-turn b q = q ∙ rw (inv, add-one i) (sym (run-next i ps a))
+
+pub run-done : (k : Kind) (es : List Entry) (t : Stage) (i last s : ℕ) (a b : Areas) → b ≡ run i (stagePlaces k es t) a → last ≡ min 4 s → i ≤ last → last ≤ i → b ≡ run s (stagePlaces k es t) a
+unfolding stagePlaces
+run-done k es t i last s a b inv e h g = go (decLe 4 s)
+  where
+    go : Dec (4 ≤ s) → b ≡ run s (stagePlaces k es t) a
+    go (yes m) = let q : i ≡ 4 = omega arith in inv ∙ rw q (sym (run-all s (stagePlaces k es t) a m))
+    go (no m) = let q : i ≡ s = omega arith in inv ∙ rw q refl

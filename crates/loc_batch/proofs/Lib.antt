@@ -1,0 +1,5 @@
+pub mod EntryLaws
+pub mod BatchLaws
+pub mod StageLaws
+pub mod AppendLaws
+pub mod PlanLaws

@@ -1,0 +1,72 @@
+-- What an append decides before it stores: the ends of the areas before and after it, and its four places.
+-- Of an inner crate: proofs/AppendLaws ties them to the places of loc_calls.
+use Prim.Native.Nat.{ℕ, _+_, _-_, _*_, _/_}
+use mathlib.Core.Path.{_≡_}
+use mathlib.Core.Bool.{cond, _||_}
+use mathlib.Core.List.{List, [], _∷_, flatten}
+use lib.Dec.{ltb, eqb}
+use lib.ListN.{length}
+use Rattle.loc_leaf.specs.declared.Kind.{Kind}
+use Rattle.loc_leaf.specs.Bytes.{Bytes}
+use Rattle.loc_leaf.specs.Area.{counted, storeLength}
+use Rattle.loc_leaf.specs.Answers.{refuse}
+use Rattle.loc_leaf.specs.Kind.{rowWidth, checkpointWidth}
+use Rattle.loc_calls.specs.Areas.{Areas, each, count}
+use Rattle.loc_calls.specs.Table.{Entry}
+use Rattle.loc_calls.specs.Stores.{Place, keep, slotLength, rowLength, checkpointLength, write, gather, slotOf, rowOf, checkpointOf, staged, newEnd}
+use Rattle.loc_batch.specs.Lists.{Room}
+use Rattle.loc_batch.specs.declared.Stage.{Stage}
+use Rattle.loc_batch.specs.declared.Ends.{Ends}
+use Rattle.loc_batch.specs.declared.Decision.{Decision}
+
+-- a length is stored only in an area whose end moves
+unfoldable pub growing : (ℕ → Place) → ℕ → ℕ → Place
+growing place old new = cond (eqb new old) keep (place new)
+
+unfoldable pub grown : ℕ → ℕ → Bytes → Bytes
+grown old new xs = cond (eqb new old) xs (storeLength new xs)
+
+-- bytes, then lengths of slots, rows, checkpoints
+unfoldable pub stagePlaces : Kind → List Entry → Stage → List Place
+stagePlaces k es t =
+    write (each flatten (staged k (t .base) es))
+    ∷ growing slotLength (t .old .slots) (t .new .slots)
+    ∷ growing rowLength (t .old .rows) (t .new .rows)
+    ∷ growing checkpointLength (t .old .checkpoints) (t .new .checkpoints)
+    ∷ []
+
+-- the parts of the areas past their published ends have room for the records es
+unfoldable pub RoomPast : Kind → ℕ → ℕ → List Entry → Areas → Type 0
+RoomPast k base n es a =
+    Room k base n es (length (a .slots) - counted (a .slots)) (length (a .rows) - counted (a .rows)) (length (a .checkpoints) - counted (a .checkpoints))
+
+-- these are the counted lengths
+pub record EndsOf (a : Areas) (e : Ends) : Type 0 where
+  pub slots : e .slots ≡ counted (a .slots)
+  pub rows : e .rows ≡ counted (a .rows)
+  pub checkpoints : e .checkpoints ≡ counted (a .checkpoints)
+
+-- how many checkpoints n records after base others bring
+abbrev pub windows : ℕ → ℕ → ℕ
+windows base n = (base + n) / 1024 - base / 1024
+
+-- the ends that n records reach, r of them with rows
+unfoldable pub reached : Kind → Ends → ℕ → ℕ → ℕ → Ends
+reached k old base n r =
+    record { slots = old .slots + 2 * n; rows = old .rows + rowWidth k * r; checkpoints = old .checkpoints + checkpointWidth k * windows base n }
+
+-- 13, or the stage with these ends
+pub record Reaches (k : Kind) (slots rows checkpoints : ℕ) (old : Ends) (base n r : ℕ) (d : Decision) : Type 0 where
+  pub number : d .number ≡ refuse (ltb slots (reached k old base n r .slots) || ltb rows (reached k old base n r .rows) || ltb checkpoints (reached k old base n r .checkpoints)) 13
+  pub stage : d .number ≡ 0 → d .stage ≡ record { base = base; n = n; old = old; new = reached k old base n r }
+
+-- a stage of n records on these areas
+pub record Ready (k : Kind) (a : Areas) (es : List Entry) (t : Stage) : Type 0 where
+  pub base : t .base ≡ count a
+  pub oldSlots : t .old .slots ≡ counted (a .slots)
+  pub oldRows : t .old .rows ≡ counted (a .rows)
+  pub oldCheckpoints : t .old .checkpoints ≡ counted (a .checkpoints)
+  pub newSlots : t .new .slots ≡ newEnd (a .slots) (gather (slotOf k) (t .base) es)
+  pub newRows : t .new .rows ≡ newEnd (a .rows) (gather (rowOf k) (t .base) es)
+  pub newCheckpoints : t .new .checkpoints ≡ newEnd (a .checkpoints) (gather (checkpointOf k) (t .base) es)
+  pub room : RoomPast k (t .base) (t .n) es a

@@ -1,0 +1,91 @@
+// A batch's refusals 7 to 12, and how many rows it stages.
+// One pass over the records decides both.
+ghost use mathlib.Core.Path.{_≡_};
+ghost use mathlib.Core.Bool.{not};
+ghost use Prim.Native.Nat.{ℕ, _/_, _^_, _≤_, _<_};
+ghost use lib.ListN.{length};
+ghost use Rattle.loc_calls.specs.Table.{uneven};
+ghost use Rattle.loc_batch.specs.Lists.{batch, entryAt, asEntry, listed, rowsOf, Tested};
+use crate::Record;
+use crate::entry::own_number;
+use crate::entry::record_at;
+use crate::entry::record_number;
+use crate::entry::value_of;
+use loc_leaf::Kind;
+use loc_leaf::delta_loc::needs_row;
+use loc_leaf::delta_loc::pack;
+
+// Whether the lists of a batch have one length.
+pub fn lists_agree(
+    kind: Kind,
+    starts: &[u64],
+    lens: &[u64],
+    span_starts: &[u64],
+    span_counts: &[u32],
+) -> bool
+    ensures { λ r. ⌜ r ≡ not (uneven kind (batch (now (starts .entry)) (now (lens .entry)) (now («span_starts» .entry)) (now («span_counts» .entry)))) ⌝ }
+{
+    let n = lens.len();
+    if starts.len() != n {
+        return false;
+    }
+    match kind {
+        Kind::Paired => {
+            if span_starts.len() != n {
+                return false;
+            }
+            span_counts.len() == n
+        }
+        Kind::Single => true,
+    }
+}
+
+// 1 for a record that stages a row, 0 for one that does not.
+pub fn rows_of(kind: Kind, e: Record) -> usize
+    requires { ⌜ e .len / 8 < 2 ^ 32 ⌝ }
+    ensures { λ r. ⌜ (r ≡ rowsOf kind (asEntry e)) × (r ≤ 1) ⌝ }
+{
+    let slot = pack(kind, value_of(e));
+    if needs_row(kind, slot[0], slot[1]) {
+        return 1;
+    }
+    0
+}
+
+// The first refusal of a record, and how many rows the records stage where there is none.
+pub struct Checked {
+    pub number: u64,
+    pub rows: usize,
+}
+
+pub fn check_batch(
+    kind: Kind,
+    starts: &[u64],
+    lens: &[u64],
+    span_starts: &[u64],
+    span_counts: &[u32],
+    n: usize,
+) -> Checked
+    requires { ⌜ 0 < n ⌝ }
+    ensures { λ r. ⌜ Tested kind (listed (entryAt kind (batch (now (starts .entry)) (now (lens .entry)) (now («span_starts» .entry)) (now («span_counts» .entry)))) 0 n) (r .number) (r .rows) ⌝ }
+{
+    let mut e = record_at(kind, starts, lens, span_starts, span_counts, 0);
+    let mut rows: usize = 0;
+    let mut i: usize = 1;
+    while i < n {
+        let next = record_at(kind, starts, lens, span_starts, span_counts, i);
+        let number = record_number(kind, e, next);
+        if number != 0 {
+            return Checked { number, rows: 0 };
+        }
+        rows += rows_of(kind, e);
+        e = next;
+        i += 1;
+    }
+    let number = own_number(kind, e);
+    if number != 0 {
+        return Checked { number, rows: 0 };
+    }
+    rows += rows_of(kind, e);
+    Checked { number: 0, rows }
+}

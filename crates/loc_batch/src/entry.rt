@@ -1,0 +1,127 @@
+// One record of a batch: its numbers, its values, its refusal.
+// Lists are read by place; past its end a list counts as 0.
+ghost use mathlib.Core.Path.{_≡_};
+ghost use mathlib.Core.List.{[], _∷_};
+ghost use Prim.Native.Nat.{_+_, _*_, _/_, _^_, _≤_, _<_};
+ghost use lib.ListN.{getD};
+ghost use Rattle.loc_calls.specs.Table.{saturated, valueOf, bodyAfter, spanAfter, spanless, breaks, entryRefusal};
+ghost use Rattle.loc_batch.specs.Lists.{batch, entryAt, asEntry};
+use crate::Record;
+use loc_leaf::Kind;
+use loc_leaf::Value;
+
+fn number_at(list: &[u64], i: usize) -> u64
+    ensures { λ r. ⌜ r ≡ getD (now (list .entry)) i 0 ⌝ }
+{
+    if i < list.len() { list[i] } else { 0 }
+}
+
+fn count_at(list: &[u32], i: usize) -> u32
+    ensures { λ r. ⌜ r ≡ getD (now (list .entry)) i 0 ⌝ }
+{
+    if i < list.len() { list[i] } else { 0 }
+}
+
+pub fn record_at(
+    kind: Kind,
+    starts: &[u64],
+    lens: &[u64],
+    span_starts: &[u64],
+    span_counts: &[u32],
+    i: usize,
+) -> Record
+    ensures { λ r. ⌜ asEntry r ≡ entryAt kind (batch (now (starts .entry)) (now (lens .entry)) (now («span_starts» .entry)) (now («span_counts» .entry))) i ⌝ }
+{
+    match kind {
+        Kind::Paired => Record {
+            start: number_at(starts, i),
+            len: number_at(lens, i),
+            span_start: number_at(span_starts, i),
+            spans: count_at(span_counts, i),
+        },
+        Kind::Single => Record {
+            start: number_at(starts, i),
+            len: number_at(lens, i),
+            span_start: 16,
+            spans: 0,
+        },
+    }
+}
+
+// A sum that stops at the largest number.
+pub fn saturating_add(a: u64, b: u64) -> u64
+    ensures { λ r. ⌜ r ≡ saturated (a + b) ⌝ }
+{
+    let room = 0xffff_ffff_ffff_ffff - a;
+    if room < b {
+        return 0xffff_ffff_ffff_ffff;
+    }
+    a + b
+}
+
+pub fn body_after(e: Record) -> u64
+    ensures { λ r. ⌜ r ≡ bodyAfter (asEntry e) ⌝ }
+{
+    saturating_add(e.start, e.len)
+}
+
+pub fn span_after(e: Record) -> u64
+    ensures { λ r. ⌜ r ≡ spanAfter (asEntry e) ⌝ }
+{
+    saturating_add(e.span_start, 8 * (e.spans as u64))
+}
+
+// What slot and row say of a record whose strides fit.
+pub fn value_of(e: Record) -> Value
+    requires { ⌜ e .len / 8 < 2 ^ 32 ⌝ }
+    ensures { λ r. ⌜ r ≡ valueOf (asEntry e) ⌝ }
+{
+    let strides = e.len / 8;
+    Value {
+        strides: strides as u32,
+        spans: e.spans,
+    }
+}
+
+fn is_spanless(kind: Kind, e: Record) -> bool
+    ensures { λ r. ⌜ r ≡ spanless kind (asEntry e) ⌝ }
+{
+    match kind {
+        Kind::Paired => e.spans == 0,
+        Kind::Single => false,
+    }
+}
+
+// 11 or 12 where the next record does not begin at this one's end.
+fn break_number(e: Record, next: Record) -> u64
+    ensures { λ r. ⌜ r ≡ breaks (asEntry e) (asEntry next ∷ []) ⌝ }
+{
+    if next.start != body_after(e) {
+        return 11;
+    }
+    if next.span_start != span_after(e) {
+        return 12;
+    }
+    0
+}
+
+// 8, 9 or 10, of a record by itself.
+pub fn own_number(kind: Kind, e: Record) -> u64
+    ensures { λ r. ⌜ r ≡ entryRefusal kind (asEntry e) [] ⌝ }
+{
+    if is_spanless(kind, e) {
+        return 8;
+    }
+    loc_leaf::delta_loc::strides_from_aligned_len(e.len).number
+}
+
+// 8 to 12, of a record and the one after it.
+pub fn record_number(kind: Kind, e: Record, next: Record) -> u64
+    ensures { λ r. ⌜ r ≡ entryRefusal kind (asEntry e) (asEntry next ∷ []) ⌝ }
+{
+    let own = own_number(kind, e);
+    if own != 0 {
+        return own;
+    }
+    break_number(e, next)
+}

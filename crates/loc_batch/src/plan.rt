@@ -1,0 +1,96 @@
+// What an append decides before it stores: its refusals 7 to 13 and, where there is none, its stage.
+// Nothing is stored here.
+ghost use mathlib.Core.Path.{_≡_};
+ghost use mathlib.Core.Bool.{false};
+ghost use Prim.Native.Nat.{ℕ, _+_, _-_, _*_, _/_, _^_, _≤_, _<_};
+ghost use lib.Dec.{ltb};
+ghost use lib.ListN.{length};
+ghost use Rattle.loc_leaf.specs.Area.{counted};
+ghost use Rattle.loc_leaf.specs.Kind.{rowWidth, checkpointWidth};
+ghost use Rattle.loc_calls.specs.Areas.{areas};
+ghost use Rattle.loc_batch.specs.Plans.{EndsOf, Reaches};
+use crate::Decision;
+use crate::Ends;
+use crate::Stage;
+use loc_leaf::Kind;
+use loc_leaf::delta_loc::LOC_WINDOW;
+use loc_leaf::delta_loc::checkpoint_width;
+use loc_leaf::delta_loc::row_width;
+use loc_leaf::file::logical_len;
+
+fn ends(slots: &[u8], rows: &[u8], checkpoints: &[u8]) -> Ends
+    ensures { λ r. ⌜ EndsOf (areas (now (slots .entry)) (now (rows .entry)) (now (checkpoints .entry))) r ⌝ }
+{
+    let slot_end = logical_len(slots) as u64;
+    let row_end = logical_len(rows) as u64;
+    let checkpoint_end = logical_len(checkpoints) as u64;
+    Ends {
+        slots: slot_end,
+        rows: row_end,
+        checkpoints: checkpoint_end,
+    }
+}
+
+// Whether n pieces behind an end lie past an area of this size.
+fn past(size: usize, end: u64, width: usize, n: usize) -> bool
+    requires { ⌜ (end ≤ size) × (0 < width) ⌝ }
+    ensures { λ r. ⌜ (r ≡ ltb size (end + width * n)) × (r ≡ false → end + width * n ≤ size) ⌝ }
+{
+    let room = size - end as usize;
+    room / width < n
+}
+
+// 13, or the ends that n records after `base` others reach, so many of them with rows.
+fn reach(
+    kind: Kind,
+    slots: usize,
+    rows: usize,
+    checkpoints: usize,
+    old: Ends,
+    base: u64,
+    n: usize,
+    with_rows: usize,
+) -> Decision
+    requires { ⌜ (old .slots ≤ slots) × (old .rows ≤ rows) × (old .checkpoints ≤ checkpoints) × (2 * base ≤ slots) ⌝ }
+    ensures { λ r. ⌜ Reaches kind slots rows checkpoints old base n «with_rows» r ⌝ }
+{
+    let row_bytes = row_width(kind);
+    let checkpoint_bytes = checkpoint_width(kind);
+    let none = Stage {
+        base,
+        n: 0,
+        old,
+        new: old,
+    };
+    if past(slots, old.slots, 2, n) {
+        return Decision {
+            number: 13,
+            stage: none,
+        };
+    }
+    if past(rows, old.rows, row_bytes, with_rows) {
+        return Decision {
+            number: 13,
+            stage: none,
+        };
+    }
+    let windows = ((base + n as u64) / LOC_WINDOW - base / LOC_WINDOW) as usize;
+    if past(checkpoints, old.checkpoints, checkpoint_bytes, windows) {
+        return Decision {
+            number: 13,
+            stage: none,
+        };
+    }
+    let new_slots = old.slots + 2 * n as u64;
+    let new_rows = old.rows + row_bytes as u64 * with_rows as u64;
+    let new_checkpoints = old.checkpoints + checkpoint_bytes as u64 * windows as u64;
+    let new = Ends {
+        slots: new_slots,
+        rows: new_rows,
+        checkpoints: new_checkpoints,
+    };
+    Decision {
+        number: 0,
+        stage: Stage { base, n, old, new },
+    }
+}

@@ -1,0 +1,166 @@
+-- An opening's two rules: what the checkpoint rule's truncation leaves, and the count that the cut rule keeps of that.
+-- Nothing is stored to find it out: it is computed from the areas as they were.
+use Prim.Native.Nat.{ℕ, zero, suc, _+_, _-_, _*_, _/_, _^_, _≤_, _<_}
+use mathlib.Core.Path.{_≡_, refl, sym, ap, _∙_}
+use mathlib.Core.Logic.{_⊎_, inl, inr}
+use mathlib.Core.Bool.{true, false}
+use native.Mathlib.Nat.{mul-zero, mul-suc}
+use native.Mathlib.Omega.{arith}
+use lib.Dec.{eqb}
+use lib.ListN.{length, take, drop}
+use borrow.Author.Tests.{lt-ltb, eqb-true}
+use Rattle.loc_leaf.specs.declared.Kind.{Kind}
+use Rattle.loc_leaf.specs.declared.Kind.the-variants.{Paired, Single}
+use Rattle.loc_leaf.specs.Bytes.{Bytes, bytes, numberAt}
+use Rattle.loc_leaf.specs.Area.{counted, storeLength, fill, published}
+use Rattle.loc_leaf.specs.Kind.{rowWidth, checkpointWidth}
+use Rattle.loc_leaf.specs.Slot.{slotAt, checkpointRule}
+use Rattle.loc_leaf.specs.Rows.{rowNumber, rowList, ascending, lastNumber, rowsUpTo}
+use Rattle.loc_leaf.specs.Cut.{cuts, cutFor}
+use Rattle.loc_leaf.proofs.Booleans.{is?}
+use Rattle.loc_leaf.proofs.Stored.{length-bytes, drop-store}
+use Rattle.loc_leaf.proofs.AreaLaws.{length-storeLength, counted-storeLength, pieces-take}
+use Rattle.loc_leaf.proofs.RowLaws.{last-none, last-some}
+use Rattle.loc_calls.specs.Areas.{Areas, count, areas}
+use Rattle.loc_calls.specs.Stores.{truncatePlaces, nextRow, holdsNext, cutRule, ruledCount, ruled}
+use Rattle.loc_store.specs.declared.Lengths.{Lengths}
+use Rattle.loc_store.specs.declared.Rules.{Rules}
+use Rattle.loc_store.specs.Areas.{Sized}
+use Rattle.loc_store.specs.Plans.{fitted, lengthsFor, placeAt, lengthPlaces, rulesFor, numberBefore, cutPast}
+use Rattle.loc_store.proofs.PlanLaws.{kept-room}
+use Rattle.loc_store.proofs.StoreLaws.{run-three}
+use Rattle.loc_store.proofs.RowPrefix.{up-to-first, up-to-le, rows-count}
+
+-- ---- an area with another length
+
+module _ (v : ℕ) (xs : Bytes) where
+  length-fitted : length (fitted v xs) ≡ length xs
+  unfolding fitted
+  length-fitted = go (is? (eqb v (counted xs)))
+    where
+      go : (eqb v (counted xs) ≡ true) ⊎ (eqb v (counted xs) ≡ false) → length (fitted v xs) ≡ length xs
+      go (inl t) = rw t refl
+      go (inr t) = rw t (length-storeLength v xs)
+
+  drop-fitted : (n : ℕ) → 16 ≤ n → drop n (fitted v xs) ≡ drop n xs
+  unfolding fitted storeLength
+  drop-fitted n h = go (is? (eqb v (counted xs)))
+    where
+      go : (eqb v (counted xs) ≡ true) ⊎ (eqb v (counted xs) ≡ false) → drop n (fitted v xs) ≡ drop n xs
+      go (inl t) = rw t refl
+      go (inr t) = rw t (drop-store n 8 (bytes 8 v) xs (omega (arith, length-bytes 8 v)))
+
+  counted-fitted : 16 ≤ v → v ≤ length xs → length xs < 2 ^ 64 → counted (fitted v xs) ≡ v
+  unfolding fitted
+  counted-fitted g h l = go (is? (eqb v (counted xs)))
+    where
+      go : (eqb v (counted xs) ≡ true) ⊎ (eqb v (counted xs) ≡ false) → counted (fitted v xs) ≡ v
+      go (inl t) = rw t (sym (eqb-true v (counted xs) t))
+      go (inr t) = rw t (counted-storeLength v xs g h l)
+
+-- slots are looked at past the length
+cut-fitted : (k : Kind) (v : ℕ) (s : Bytes) (n last : ℕ) (r : Bytes) → cutFor k (fitted v s) n last r ≡ cutFor k s n last r
+unfolding cutFor cuts slotAt
+cut-fitted k v s n last r = rw (drop-fitted v s (16 + 2 * (rowNumber r - 1)) (omega arith)) refl
+
+-- ---- the first p rows
+
+wide : (k : Kind) → 12 ≤ rowWidth k
+wide Paired = omega arith
+wide Single = omega arith
+
+back : (w p q : ℕ) → p ≡ suc q → 16 + w * p - w ≡ 16 + w * (p - 1)
+back w p q e = let z : p - 1 ≡ q = omega arith in rw (z, e) (omega (arith, mul-suc w q))
+
+past : (w p q : ℕ) → 12 ≤ w → p ≡ suc q → 16 < 16 + w * p
+past w p q h e = rw e (omega (arith, mul-suc w q))
+
+module _ (k : Kind) (xs : Bytes) (p : ℕ) (h : p ≤ fill (rowWidth k) xs) (g : 16 ≤ length xs) (l : length xs < 2 ^ 64) where
+  abbrev end : ℕ
+  end = 16 + rowWidth k * p
+
+  end-in : end ≤ length xs
+  end-in = kept-room k xs (rowWidth k) p refl h g
+
+  end-counted : counted (fitted end xs) ≡ end
+  end-counted = counted-fitted end xs (omega arith) end-in l
+
+  rows-fill : fill (rowWidth k) (fitted end xs) ≡ p
+  unfolding fill
+  rows-fill = rw end-counted (by k)
+    where
+      by : (j : Kind) → (16 + rowWidth j * p - 16) / rowWidth j ≡ p
+      by Paired = omega arith
+      by Single = omega arith
+
+  rows-first : rowList k (fitted end xs) ≡ take p (rowList k xs)
+  unfolding rowList published
+  rows-first = rw (rows-fill, drop-fitted end xs 16 (omega arith)) (pieces-take (rowWidth k) p (fill (rowWidth k) xs) (drop 16 xs) h)
+
+  row-before : (q : ℕ) → p ≡ suc q → numberAt 8 (end - rowWidth k) xs ≡ numberAt 8 (16 + rowWidth k * (p - 1)) (fitted end xs)
+  unfolding numberAt
+  row-before q e =
+      rw (back (rowWidth k) p q e, drop-fitted end xs (16 + rowWidth k * (p - 1)) (omega arith)) refl
+
+  rows-last : lastNumber 0 (rowList k (fitted end xs)) ≡ numberBefore k xs end
+  unfolding numberBefore
+  rows-last = by p refl
+    where
+      by : (q : ℕ) → p ≡ q → lastNumber 0 (rowList k (fitted end xs)) ≡ numberBefore k xs end
+      by zero e = sym (last-none k (fitted end xs) p (sym rows-fill) e) ∙ rw (e, mul-zero (rowWidth k)) refl
+      by (suc q) e =
+          sym (last-some k (fitted end xs) p (sym rows-fill) (rowWidth k) _ refl (wide k) (λ z. omega arith) (row-before q e))
+          ∙ rw (lt-ltb 16 end (past (rowWidth k) p q (wide k) e)) refl
+
+-- ---- what is left by the checkpoint rule's truncation to n records, and what the cut rule keeps of it
+
+module _ (k : Kind) (s r c : Bytes) (g : Sized (areas s r c)) (ls : length s < 2 ^ 64) (lr : length r < 2 ^ 64) (asc : ascending 0 (rowList k r) ≡ true)
+    (n : ℕ) (en : n ≡ checkpointRule (fill 2 s) (fill (checkpointWidth k) c)) (room : 2 * n ≤ length s - 16) where
+  abbrev kept : ℕ
+  kept = rowsUpTo n (rowList k r)
+
+  abbrev rowEnd : ℕ
+  rowEnd = 16 + rowWidth k * kept
+
+  ruled-is : ruled k (areas s r c) ≡ areas (fitted (16 + 2 * n) s) (fitted rowEnd r) (fitted (16 + checkpointWidth k * (n / 1024)) c)
+  unfolding ruled truncatePlaces ruledCount count lengthsFor lengthPlaces placeAt
+  ruled-is = rw (← en) (run-three (lengthsFor k n r) (areas s r c))
+
+  kept-in : kept ≤ fill (rowWidth k) r
+  kept-in = rw (rows-count k r) at (up-to-le n (rowList k r))
+
+  slots-fill : fill 2 (fitted (16 + 2 * n) s) ≡ n
+  unfolding fill
+  slots-fill = rw (counted-fitted (16 + 2 * n) s (omega arith) (omega (arith, g .slotsHold)) ls) (omega arith)
+
+  cut-is : cutRule k (ruled k (areas s r c)) ≡ cutPast k s r n rowEnd
+  unfolding cutRule holdsNext nextRow count cutPast
+  cut-is =
+      rw (
+        ruled-is,
+        end-counted k r kept kept-in (g .rowsHold) lr,
+        length-fitted rowEnd r,
+        slots-fill,
+        rows-last k r kept kept-in (g .rowsHold) lr,
+        drop-fitted rowEnd r rowEnd (omega arith),
+        cut-fitted k (16 + 2 * n) s n (numberBefore k r rowEnd) (take (rowWidth k) (drop rowEnd r)),
+      ) refl
+
+  lengths-same : (m : ℕ) → m ≤ n → lengthsFor k m (fitted rowEnd r) ≡ lengthsFor k m r
+  unfolding lengthsFor
+  lengths-same m h = rw (rows-first k r kept kept-in (g .rowsHold) lr, up-to-first m n 0 (rowList k r) h asc) refl
+
+  end-is : lengthsFor k n r .rows ≡ rowEnd
+  unfolding lengthsFor
+  end-is = refl
+
+  pub rules-are : (t u : Lengths) (m : ℕ) → t ≡ lengthsFor k n r → m ≡ cutPast k s r n (t .rows) → m ≤ n → u ≡ lengthsFor k m r
+      → _≡_ {A = Rules} (record { checkpoint = t; cut = u }) (rulesFor k (areas s r c))
+  unfolding rulesFor ruledCount count
+  rules-are t u m et em h eu = rw (← en, et, eu, cut) refl
+    where
+      keeps : m ≡ cutRule k (ruled k (areas s r c))
+      keeps = em ∙ ap (λ (x : Lengths). cutPast k s r n (x .rows)) et ∙ ap (cutPast k s r n) end-is ∙ sym cut-is
+
+      cut : lengthsFor k m r ≡ lengthsFor k (cutRule k (ruled k (areas s r c))) (ruled k (areas s r c) .rows)
+      cut = sym (lengths-same m h) ∙ ap (λ (i : ℕ). lengthsFor k i (fitted rowEnd r)) keeps ∙ ap (λ (x : Areas). lengthsFor k (cutRule k (ruled k (areas s r c))) (x .rows)) (sym ruled-is)

@@ -1,0 +1,97 @@
+-- `loc_store::open::open_run` meets its contract.
+-- A refusal leaves the areas; else the plan is that of the areas at entry, and the run is over its places.
+use denote.Ref.{now}
+use borrow.Author.Needs.{needs}
+use Rattle.loc_store.proofs.CallLaws.{open-small, open-refused, open-done}
+use Rattle.loc_store.proofs.SettledLaws.{not-small, opened-ascends}
+use Rattle.loc_store.proofs.open.open_run.Statement.{statement}
+use Rattle.loc_store.proofs.open.open_run.Tie as tie
+
+too-small-requires : tie.Need-too-small-requires
+too-small-requires c κs = search needs
+
+same-length : tie.Need-same-length
+same-length c = search needs
+
+same-length-2 : tie.Need-same-length-2
+same-length-2 c = search needs
+
+same-length-3 : tie.Need-same-length-3
+same-length-3 c = search needs
+
+returns : tie.Need-returns
+returns c =
+    let start = c .before .before .before .before .before .before .before .before in
+    open-small (start .args .kind) (now (start .args .slots)) (now (start .args .rows)) (now (start .args .checkpoints)) _ _ (c .before .too-small .ensures) (c .if1 .taken)
+
+open-refusal-requires : tie.Need-open-refusal-requires
+open-refusal-requires c κs = search needs
+
+same-length-4 : tie.Need-same-length-4
+same-length-4 c = search needs
+
+same-length-5 : tie.Need-same-length-5
+same-length-5 c = search needs
+
+same-length-6 : tie.Need-same-length-6
+same-length-6 c = search needs
+
+returns-2 : tie.Need-returns-2
+returns-2 c =
+    let sized = c .before .before .before .before .before in
+    let start = sized .before .before .before .before .before .before .before .before in
+    open-refused (start .args .kind) (now (start .args .slots)) (now (start .args .rows)) (now (start .args .checkpoints)) _ _ (sized .before .too-small .ensures) (sized .if1 .left) _ (c .before .open-refusal .ensures) (c .if2 .taken)
+
+rules-requires : tie.Need-rules-requires
+rules-requires c κs =
+    let accepted = c .before .before .before in
+    let sized = accepted .before .before .before .before .before in
+    let start = sized .before .before .before .before .before .before .before .before in (
+      not-small (now (start .args .slots)) (now (start .args .rows)) (now (start .args .checkpoints)) _ (sized .before .too-small .ensures) (sized .if1 .left),
+      opened-ascends (start .args .kind) (now (start .args .slots)) (now (start .args .rows)) (now (start .args .checkpoints)) _ (accepted .before .open-refusal .ensures) (accepted .if2 .left),
+    )
+
+store-rules-requires : tie.Need-store-rules-requires
+store-rules-requires c κs = search needs
+
+piece-count-requires : tie.Need-piece-count-requires
+piece-count-requires c κs = search needs
+
+same-length-7 : tie.Need-same-length-7
+same-length-7 c = search needs
+
+same-length-8 : tie.Need-same-length-8
+same-length-8 c = search needs
+
+same-length-9 : tie.Need-same-length-9
+same-length-9 c = search needs
+
+returns-3 : tie.Need-returns-3
+returns-3 c =
+    let accepted = c .before .before .before .before .before .before .before .before .before .before .before .before .before .before .before .before in
+    let sized = accepted .before .before .before .before .before in
+    let start = sized .before .before .before .before .before .before .before .before in
+    open-done (start .args .kind) (now (start .args .slots)) (now (start .args .rows)) (now (start .args .checkpoints)) _ _ (sized .before .too-small .ensures) (sized .if1 .left) _ (accepted .before .open-refusal .ensures)
+    _ _ _ _ _ (accepted .if2 .left) (c .before .before .before .before .before .before .before .before .before .before .before .before .rules .ensures) (c .before .before .before .before .before .before .before .before .store-rules .ensures) (c .piece-count .ensures .0)
+
+pub open-run-spec : {M : Type 1} → statement M
+open-run-spec =
+    tie.close
+    (tie.spec
+    too-small-requires
+    same-length
+    same-length-2
+    same-length-3
+    returns
+    open-refusal-requires
+    same-length-4
+    same-length-5
+    same-length-6
+    returns-2
+    rules-requires
+    store-rules-requires
+    piece-count-requires
+    same-length-7
+    same-length-8
+    same-length-9
+    returns-3)

@@ -1,0 +1,29 @@
+// Creation: the length of an empty area, three times.
+// Of an inner crate, as the public calls of both kinds use it.
+ghost use mathlib.Core.Path.{_≡_};
+ghost use Rattle.loc_calls.specs.Calls.{create};
+ghost use Rattle.loc_calls.specs.Areas.{areas};
+use crate::check::too_small;
+use loc_leaf::Answer;
+use loc_leaf::file::store_len;
+
+// 1; then lengths of slots, rows, checkpoints.
+pub fn create_areas(slots: &mut [u8], rows: &mut [u8], checkpoints: &mut [u8]) -> Answer
+    ensures { λ r. ⌜ (r ≡ create (areas (now (slots .entry)) (now (rows .entry)) (now (checkpoints .entry))) .answer)
+        × (areas (now (slots .exit)) (now (rows .exit)) (now (checkpoints .exit))
+        ≡ create (areas (now (slots .entry)) (now (rows .entry)) (now (checkpoints .entry))) .areas) ⌝ }
+{
+    if too_small(slots, rows, checkpoints) {
+        return Answer {
+            number: 1,
+            value: 0,
+        };
+    }
+    store_len(slots, 16);
+    store_len(rows, 16);
+    store_len(checkpoints, 16);
+    Answer {
+        number: 0,
+        value: 0,
+    }
+}

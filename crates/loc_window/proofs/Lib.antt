@@ -1,0 +1,6 @@
+pub mod BlockLaws
+pub mod PassedLaws
+pub mod SumLaws
+pub mod PairLaws
+pub mod StepLaws
+pub mod WindowLaws

@@ -1,0 +1,18 @@
+// The sums of one window: its slots in a copy, its records' strides and spans added up from the window's begin.
+// This crate is inner: its callers prove what it requires.
+pub mod block;
+pub mod rows;
+pub mod window;
+
+// What the records so far add up to, and how many rows are passed; a number of rows past all of them says nothing.
+pub struct Sums {
+    pub strides: u64,
+    pub spans: u64,
+    pub row: usize,
+}
+
+// The sums after some records more, or that one of them lacks its row.
+pub enum Step {
+    Next(Sums),
+    Lack,
+}
