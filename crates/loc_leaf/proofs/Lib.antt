@@ -5,6 +5,7 @@ pub mod AreaLaws
 pub mod SlotLaws
 pub mod ValueLaws
 pub mod RowLaws
+pub mod RowPrefix
 pub mod Lanes
 pub mod Table
 pub mod Starred

@@ -103,6 +103,10 @@ pub rows-end : (w left last : ℕ) (ys : Bytes) (whole : Bool) → whole ≡ asc
 unfolding ascending pieces
 rows-end w left last ys whole inv h = let z : left ≡ 0 = omega arith in sym (inv ∙ rw z refl)
 
+pub rows-count : (k : Kind) (xs : Bytes) → length (rowList k xs) ≡ fill (rowWidth k) xs
+unfolding rowList published
+rows-count k xs = length-pieces (rowWidth k) (fill (rowWidth k) xs) (drop 16 xs)
+
 module _ (w : ℕ) (wide : 12 ≤ w) (xs : Bytes) where
   module _ (at left last : ℕ) (whole : Bool) (inv : whole ≡ ascending last (pieces w left (drop at xs))) where
     module _ (h : 0 < left) (number : ℕ) (e : number ≡ numberAt 8 at xs) where
@@ -135,7 +139,7 @@ module _ (w : ℕ) (wide : 12 ≤ w) where
     row-there : (i : ℕ) → i < n → getD (pieces w n (drop 16 xs)) i [] ≡ take w (drop (16 + w * i) xs)
     row-there i h = pieces-get w n (drop 16 xs) i h ∙ ap (take w) (drop-drop (w * i) 16 xs)
 
-    number-there : (i : ℕ) → i < n → numberIn (pieces w n (drop 16 xs)) i ≡ numberAt 8 (16 + w * i) xs
+    pub number-there : (i : ℕ) → i < n → numberIn (pieces w n (drop 16 xs)) i ≡ numberAt 8 (16 + w * i) xs
     unfolding numberIn
     number-there i h =
         ap rowNumber (row-there i h) ∙ piece-number w (drop (16 + w * i) xs) (omega arith) ∙ number-past 8 0 (16 + w * i) xs
@@ -253,7 +257,7 @@ module _ (n : ℕ) where
     pub upTo : (i : ℕ) → i < p → numberIn rs i ≤ n
     pub above : (i : ℕ) → p ≤ i → i < length rs → n < numberIn rs i
 
-  parts-same : (rs : List Bytes) (p q : ℕ) → Parts rs p → Parts rs q → p ≡ q
+  pub parts-same : (rs : List Bytes) (p q : ℕ) → Parts rs p → Parts rs q → p ≡ q
   parts-same rs p q a b = go (decLe p q) (decLe q p)
     where
       go : Dec (p ≤ q) → Dec (q ≤ p) → p ≡ q
@@ -262,7 +266,7 @@ module _ (n : ℕ) where
       go (no g) h = absurd (omega (arith, a .upTo q (omega arith), b .above q (omega arith) (omega (arith, a .inside))))
 
   -- above a number that is n or more all numbers are above n
-  none-up-to : (m : ℕ) (rs : List Bytes) → n ≤ m → ascending m rs ≡ true → (rowsUpTo n rs ≡ 0) × ((i : ℕ) → i < length rs → n < numberIn rs i)
+  pub none-up-to : (m : ℕ) (rs : List Bytes) → n ≤ m → ascending m rs ≡ true → (rowsUpTo n rs ≡ 0) × ((i : ℕ) → i < length rs → n < numberIn rs i)
   unfolding ascending rowsUpTo numberIn
   none-up-to m [] h a = (refl, λ i g. absurd (not-suc-le-zero g))
   none-up-to m (r ∷ rs) h a = go (none-up-to (rowNumber r) rs (omega (arith, first)) (both-right (ltb m (rowNumber r)) (ascending (rowNumber r) rs) a))
@@ -278,7 +282,7 @@ module _ (n : ℕ) where
           at zero g = omega (arith, first)
           at (suc i) g = more .1 i (le-of-suc-le-suc g)
 
-  up-to-parts : (m : ℕ) (rs : List Bytes) → ascending m rs ≡ true → Parts rs (rowsUpTo n rs)
+  pub up-to-parts : (m : ℕ) (rs : List Bytes) → ascending m rs ≡ true → Parts rs (rowsUpTo n rs)
   unfolding ascending rowsUpTo numberIn
   up-to-parts m [] a = record { inside = omega arith; upTo = λ i h. absurd (not-suc-le-zero h); above = λ i h g. absurd (not-suc-le-zero g) }
   up-to-parts m (r ∷ rs) a = go (is? (leb (rowNumber r) n)) (up-to-parts (rowNumber r) rs rest)
@@ -355,7 +359,7 @@ module _ (rs : List Bytes) (a : ascending 0 rs ≡ true) (n : ℕ) where
                   (eq-or-lt-of-le h)
       go (inr e) more = rw e (record { inside = omega arith; upTo = up; above = λ i h. past i (omega (arith, ltb-false lo hi e)) })
 
-  by-halves-parts : Parts n rs (rowsUpToByHalves n rs)
+  pub by-halves-parts : Parts n rs (rowsUpToByHalves n rs)
   unfolding rowsUpToByHalves
   by-halves-parts = halve-parts (length rs) 0 (length rs) (omega arith) (omega arith) (omega arith) (λ i h. absurd (not-suc-le-zero h)) (λ i h g. absurd (omega arith))
 

@@ -1,7 +1,6 @@
 pub mod CheckLaws
 pub mod PlanLaws
 pub mod StoreLaws
-pub mod RowPrefix
 pub mod RuleLaws
 pub mod SettledLaws
 pub mod CallLaws

@@ -20,7 +20,7 @@ use Rattle.loc_leaf.specs.Cut.{cuts, cutFor}
 use Rattle.loc_leaf.proofs.Booleans.{is?}
 use Rattle.loc_leaf.proofs.Stored.{length-bytes, drop-store}
 use Rattle.loc_leaf.proofs.AreaLaws.{length-storeLength, counted-storeLength, pieces-take}
-use Rattle.loc_leaf.proofs.RowLaws.{last-none, last-some}
+use Rattle.loc_leaf.proofs.RowLaws.{last-none, last-some, rows-count}
 use Rattle.loc_calls.specs.Areas.{Areas, count, areas}
 use Rattle.loc_calls.specs.Stores.{truncatePlaces, nextRow, holdsNext, cutRule, ruledCount, ruled}
 use Rattle.loc_store.specs.declared.Lengths.{Lengths}
@@ -29,7 +29,7 @@ use Rattle.loc_store.specs.Areas.{Sized}
 use Rattle.loc_store.specs.Plans.{fitted, lengthsFor, placeAt, lengthPlaces, rulesFor, numberBefore, cutPast}
 use Rattle.loc_store.proofs.PlanLaws.{kept-room}
 use Rattle.loc_store.proofs.StoreLaws.{run-three}
-use Rattle.loc_store.proofs.RowPrefix.{up-to-first, up-to-le, rows-count}
+use Rattle.loc_leaf.proofs.RowPrefix.{up-to-first, up-to-le}
 
 -- ---- an area with another length
 

@@ -16,7 +16,7 @@ use Rattle.loc_leaf.specs.Rows.{rowList}
 use Rattle.loc_calls.specs.Areas.{Areas}
 use Rattle.loc_calls.specs.Reading.{sumAfter, allAfter, lookupAt, has, valueIn, valueAt, stridesAfter, spansAfter}
 use Rattle.loc_window.specs.Window.{placed, complete, Rising, After, sumsOf, Right, Stored, Copied}
-use Rattle.loc_window.proofs.PassedLaws.{rows-long}
+use Rattle.loc_leaf.proofs.RowLaws.{rows-count}
 use Rattle.loc_window.proofs.SumLaws.{slot-two, lookup-is}
 
 -- ---- the begin
@@ -31,7 +31,7 @@ module _ (k : Kind) (f : ℕ) (bytes rows : Bytes) where
         isSpans = refl;
         stridesLow = omega arith;
         spansLow = omega arith;
-        passed = λ h. absurd (omega (arith, rows-long k rows, r .counted));
+        passed = λ h. absurd (omega (arith, rows-count k rows, r .counted));
       }
 
   pub stored-none : (mark : List ℕ) (stamp : ℕ) (body span : List ℕ) → Stored k f bytes rows mark stamp 0 body span

@@ -1,9 +1,8 @@
 // The row of a record: within a window the rows passed only grow, so a search goes on from them.
 // Where none are passed yet the rows are halved.
 ghost use mathlib.Core.Path.{_≡_};
-ghost use Prim.Native.Nat.{ℕ, _<_, _≤_};
-ghost use lib.ListN.{length};
-ghost use Rattle.loc_leaf.specs.Rows.{rowList, numberIn, rowsUpToByHalves, lookupByHalves};
+ghost use Prim.Native.Nat.{_<_, _≤_};
+ghost use Rattle.loc_leaf.specs.Rows.{rowList, rowsUpToByHalves, lookupByHalves};
 ghost use Rattle.loc_window.specs.Window.{Passed, Rising};
 use loc_leaf::Kind;
 use loc_leaf::delta_loc::Lookup;
