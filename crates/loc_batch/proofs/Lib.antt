@@ -3,3 +3,4 @@ pub mod BatchLaws
 pub mod StageLaws
 pub mod AppendLaws
 pub mod PlanLaws
+pub mod RunLaws

@@ -1,6 +1,6 @@
 -- What an append decides before it stores: the ends of the areas before and after it, and its four places.
 -- Of an inner crate: proofs/AppendLaws ties them to the places of loc_calls.
-use Prim.Native.Nat.{ℕ, _+_, _-_, _*_, _/_}
+use Prim.Native.Nat.{ℕ, _+_, _-_, _*_, _/_, _^_, _<_}
 use mathlib.Core.Path.{_≡_}
 use mathlib.Core.Bool.{cond, _||_}
 use mathlib.Core.List.{List, [], _∷_, flatten}
@@ -11,10 +11,10 @@ use Rattle.loc_leaf.specs.Bytes.{Bytes}
 use Rattle.loc_leaf.specs.Area.{counted, storeLength}
 use Rattle.loc_leaf.specs.Answers.{refuse}
 use Rattle.loc_leaf.specs.Kind.{rowWidth, checkpointWidth}
-use Rattle.loc_calls.specs.Areas.{Areas, each, count}
-use Rattle.loc_calls.specs.Table.{Entry}
-use Rattle.loc_calls.specs.Stores.{Place, keep, slotLength, rowLength, checkpointLength, write, gather, slotOf, rowOf, checkpointOf, staged, newEnd}
-use Rattle.loc_batch.specs.Lists.{Room}
+use Rattle.loc_calls.specs.Areas.{Areas, each, sizes, count}
+use Rattle.loc_calls.specs.Table.{Entry, Batch, append, table}
+use Rattle.loc_calls.specs.Stores.{Place, keep, slotLength, rowLength, checkpointLength, write, gather, slotOf, rowOf, checkpointOf, staged, newEnd, newEnds}
+use Rattle.loc_batch.specs.Lists.{entryAt, listed, Room}
 use Rattle.loc_batch.specs.declared.Stage.{Stage}
 use Rattle.loc_batch.specs.declared.Ends.{Ends}
 use Rattle.loc_batch.specs.declared.Decision.{Decision}
@@ -59,6 +59,7 @@ reached k old base n r =
 pub record Reaches (k : Kind) (slots rows checkpoints : ℕ) (old : Ends) (base n r : ℕ) (d : Decision) : Type 0 where
   pub number : d .number ≡ refuse (ltb slots (reached k old base n r .slots) || ltb rows (reached k old base n r .rows) || ltb checkpoints (reached k old base n r .checkpoints)) 13
   pub stage : d .number ≡ 0 → d .stage ≡ record { base = base; n = n; old = old; new = reached k old base n r }
+  pub few : d .number ≡ 0 → base + n < 2 ^ 64
 
 -- a stage of n records on these areas
 pub record Ready (k : Kind) (a : Areas) (es : List Entry) (t : Stage) : Type 0 where
@@ -70,3 +71,9 @@ pub record Ready (k : Kind) (a : Areas) (es : List Entry) (t : Stage) : Type 0 w
   pub newRows : t .new .rows ≡ newEnd (a .rows) (gather (rowOf k) (t .base) es)
   pub newCheckpoints : t .new .checkpoints ≡ newEnd (a .checkpoints) (gather (checkpointOf k) (t .base) es)
   pub room : RoomPast k (t .base) (t .n) es a
+
+-- the refusals 7 to 13 and, where there is none, a stage of the batch's records
+pub record Planned (k : Kind) (a : Areas) (b : Batch) (d : Decision) : Type 0 where
+  pub number : d .number ≡ table k (count a) (newEnds k a) (sizes a) (append b)
+  pub entries : d .number ≡ 0 → Rattle.loc_calls.specs.Table.entries k b ≡ listed (entryAt k b) 0 (d .stage .n)
+  pub ready : d .number ≡ 0 → Ready k a (listed (entryAt k b) 0 (d .stage .n)) (d .stage)

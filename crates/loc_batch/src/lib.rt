@@ -4,6 +4,7 @@ pub mod append;
 pub mod batch;
 pub mod entry;
 pub mod plan;
+pub mod run;
 pub mod staging;
 
 // One record of a batch.

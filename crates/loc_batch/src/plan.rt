@@ -8,15 +8,19 @@ ghost use lib.ListN.{length};
 ghost use Rattle.loc_leaf.specs.Area.{counted};
 ghost use Rattle.loc_leaf.specs.Kind.{rowWidth, checkpointWidth};
 ghost use Rattle.loc_calls.specs.Areas.{areas};
-ghost use Rattle.loc_batch.specs.Plans.{EndsOf, Reaches};
+ghost use Rattle.loc_batch.specs.Lists.{batch};
+ghost use Rattle.loc_batch.specs.Plans.{EndsOf, Reaches, Planned};
 use crate::Decision;
 use crate::Ends;
 use crate::Stage;
+use crate::batch::check_batch;
+use crate::batch::lists_agree;
 use loc_leaf::Kind;
 use loc_leaf::delta_loc::LOC_WINDOW;
 use loc_leaf::delta_loc::checkpoint_width;
 use loc_leaf::delta_loc::row_width;
 use loc_leaf::file::logical_len;
+use loc_store::plan::piece_count;
 
 fn ends(slots: &[u8], rows: &[u8], checkpoints: &[u8]) -> Ends
     ensures { λ r. ⌜ EndsOf (areas (now (slots .entry)) (now (rows .entry)) (now (checkpoints .entry))) r ⌝ }
@@ -92,5 +96,61 @@ fn reach(
     Decision {
         number: 0,
         stage: Stage { base, n, old, new },
+    }
+}
+
+// 7 to 13, or the stage of the batch.
+pub fn plan_append(
+    kind: Kind,
+    slots: &[u8],
+    rows: &[u8],
+    checkpoints: &[u8],
+    starts: &[u64],
+    lens: &[u64],
+    span_starts: &[u64],
+    span_counts: &[u32],
+) -> Decision
+    ensures { λ r. ⌜ Planned kind (areas (now (slots .entry)) (now (rows .entry)) (now (checkpoints .entry)))
+        (batch (now (starts .entry)) (now (lens .entry)) (now («span_starts» .entry)) (now («span_counts» .entry))) r ⌝ }
+{
+    let old = ends(slots, rows, checkpoints);
+    let base = piece_count(slots, 2) as u64;
+    let n = lens.len();
+    let none = Stage {
+        base,
+        n: 0,
+        old,
+        new: old,
+    };
+    if lists_agree(kind, starts, lens, span_starts, span_counts) {
+        if n == 0 {
+            return Decision {
+                number: 0,
+                stage: none,
+            };
+        }
+        let checked = check_batch(kind, starts, lens, span_starts, span_counts, n);
+        let number = checked.number;
+        if number != 0 {
+            return Decision {
+                number,
+                stage: none,
+            };
+        }
+        let with_rows = checked.rows;
+        return reach(
+            kind,
+            slots.len(),
+            rows.len(),
+            checkpoints.len(),
+            old,
+            base,
+            n,
+            with_rows,
+        );
+    }
+    Decision {
+        number: 7,
+        stage: none,
     }
 }

@@ -1,69 +1,51 @@
-use Rattle.loc_batch.proofs.AppendLaws.{place-bytes, place-slots, place-rows, place-checkpoints, place-none}
+-- `append::append_step` meets its contract.
 use borrow.Author.Needs.{needs}
+use Rattle.loc_batch.proofs.AppendLaws.{place-bytes, place-slots, place-rows, place-checkpoints, place-none}
 use Rattle.loc_batch.proofs.append.append_step.Statement.{statement}
 use Rattle.loc_batch.proofs.append.append_step.Tie as tie
-use Rattle.loc_batch.proofs.append.append_step.Reads as reads
-use Rattle.loc_batch.proofs.append.append_step.Lts as lts
-use Rattle.loc_batch.proofs.append.grow.Reads as grow-reads
-use Rattle.loc_batch.proofs.append.write_bytes.Reads as write-bytes-reads
 
--- src/append.rt:50:9
 write-bytes-requires : tie.Need-write-bytes-requires
 write-bytes-requires c κs = c .before .before .before .before .before .before .before .before .before .before .before .before .before .pre (c .before .before .before .if1 .taken)
 
--- src/append.rt:51:9
 same-length : tie.Need-same-length
 same-length c = search needs
 
--- src/append.rt:51:9
 same-length-2 : tie.Need-same-length-2
 same-length-2 c = search needs
 
--- src/append.rt:51:9
 same-length-3 : tie.Need-same-length-3
 same-length-3 c = search needs
 
--- src/append.rt:51:9
 returns : tie.Need-returns
 returns c = search (needs, place-bytes)
 
--- src/append.rt:54:9
 grow-requires : tie.Need-grow-requires
 grow-requires c κs = search needs
 
--- src/append.rt:55:9
 same-length-4 : tie.Need-same-length-4
 same-length-4 c = search needs
 
--- src/append.rt:55:9
 returns-2 : tie.Need-returns-2
 returns-2 c = search (needs, place-slots)
 
--- src/append.rt:58:9
 grow-requires-2 : tie.Need-grow-requires-2
 grow-requires-2 c κs = search needs
 
--- src/append.rt:59:9
 same-length-5 : tie.Need-same-length-5
 same-length-5 c = search needs
 
--- src/append.rt:59:9
 returns-3 : tie.Need-returns-3
 returns-3 c = search (needs, place-rows)
 
--- src/append.rt:62:9
 grow-requires-3 : tie.Need-grow-requires-3
 grow-requires-3 c κs = search needs
 
--- src/append.rt:39:1
 same-length-6 : tie.Need-same-length-6
 same-length-6 c = search needs
 
--- src/append.rt:39:1
 returns-4 : tie.Need-returns-4
 returns-4 c = search (needs, place-checkpoints)
 
--- src/append.rt:39:1
 returns-5 : tie.Need-returns-5
 returns-5 c = search (needs, place-none)
 

@@ -1,19 +1,16 @@
-use Rattle.loc_calls.specs.Areas.{areas}
-use Rattle.loc_batch.specs.Plans.{stagePlaces}
-use Rattle.loc_batch.specs.Lists.{batch, entryAt, listed}
-use Rattle.loc_calls.specs.Stores.{run}
-use lib.ListN.{length}
-use native.Mathlib.Omega.{arith}
-use mathlib.Core.Path.{_≡_, refl}
+-- `append::append_stores` meets its contract.
 use Prim.Native.Nat.{_-_, _≤_}
-use Rattle.loc_batch.proofs.AppendLaws.{room-first, run-turn, run-done}
 use borrow.Author.Needs.{needs}
+use lib.ListN.{length}
+use mathlib.Core.Path.{_≡_, refl}
+use native.Mathlib.Omega.{arith}
+use Rattle.loc_batch.proofs.AppendLaws.{room-first, run-turn, run-done}
+use Rattle.loc_batch.specs.Lists.{batch, entryAt, listed}
+use Rattle.loc_batch.specs.Plans.{stagePlaces}
+use Rattle.loc_calls.specs.Areas.{areas}
+use Rattle.loc_calls.specs.Stores.{run}
 use Rattle.loc_batch.proofs.append.append_stores.Statement.{statement}
 use Rattle.loc_batch.proofs.append.append_stores.Tie as tie
-use Rattle.loc_batch.proofs.append.append_stores.Reads as reads
-use Rattle.loc_batch.proofs.append.append_stores.Lts as lts
-use Rattle.loc_batch.proofs.append.append_step.Reads as append-step-reads
-use Rattle.loc_batch.proofs.append.places_of.Reads as places-of-reads
 
 abbrev Inv-loop : tie.InvT-loop
 Inv-loop slots₀ rows₀ checkpoints₀ kind starts lens span-starts span-counts t s last i₀ slots rows checkpoints i =
@@ -23,44 +20,34 @@ Inv-loop slots₀ rows₀ checkpoints₀ kind starts lens span-starts span-count
 abbrev μ-loop : tie.MeasureT-loop
 μ-loop slots₀ rows₀ checkpoints₀ kind starts lens span-starts span-counts t s last i₀ slots rows checkpoints i = last - i
 
--- src/append.rt:80:9
 places-of-requires : tie.Need-places-of-requires Inv-loop μ-loop
 places-of-requires c κs = search needs
 
--- src/append.rt:82:5
 loop-holds : tie.Need-loop-holds Inv-loop μ-loop
 unfolding run
 loop-holds c = (omega arith, refl, refl, refl, refl)
 
--- src/append.rt:83:9
 append-step-requires : tie.Need-append-step-requires Inv-loop μ-loop
 append-step-requires c κs = room-first _ _ _ _ _ _ (c .before .before .before .before .loop .inv .4) _ _ _ _ (c .before .before .before .before .before .before .before .before .before .before .before .before .before .pre)
 
--- src/append.rt:84:9
 add-i : tie.Need-add-i Inv-loop μ-loop
 add-i c = search needs
 
--- src/append.rt:82:5
 loop-less : tie.Need-loop-less Inv-loop μ-loop
 loop-less c = search needs
 
--- src/append.rt:82:5
 loop-again : tie.Need-loop-again Inv-loop μ-loop
 loop-again c = (search needs, search needs, search needs, search needs, run-turn _ _ _ _ _ _ (c .before .before .before .before .before .before .before .before .before .before .before .loop .inv .4) _ (c .before .before .before .before .before .before .append-step .ensures))
 
--- src/append.rt:74:1
 same-length : tie.Need-same-length Inv-loop μ-loop
 same-length c = search needs
 
--- src/append.rt:74:1
 same-length-2 : tie.Need-same-length-2 Inv-loop μ-loop
 same-length-2 c = search needs
 
--- src/append.rt:74:1
 same-length-3 : tie.Need-same-length-3 Inv-loop μ-loop
 same-length-3 c = search needs
 
--- src/append.rt:74:1
 returns : tie.Need-returns Inv-loop μ-loop
 returns c = search (needs, run-done)
 

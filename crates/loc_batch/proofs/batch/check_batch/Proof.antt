@@ -1,16 +1,11 @@
-use native.Mathlib.Omega.{arith}
-use Rattle.loc_batch.specs.Lists.{batch, entryAt, asEntry}
+-- `batch::check_batch` meets its contract.
 use Prim.Native.Nat.{_-_}
-use Rattle.loc_batch.proofs.BatchLaws.{Passed, strides-fit, passed-begin, passed-turn, passed-refused, last-refused, last-passed}
 use borrow.Author.Needs.{needs}
+use native.Mathlib.Omega.{arith}
+use Rattle.loc_batch.proofs.BatchLaws.{Passed, strides-fit, passed-begin, passed-turn, passed-refused, last-refused, last-passed}
+use Rattle.loc_batch.specs.Lists.{batch, entryAt, asEntry}
 use Rattle.loc_batch.proofs.batch.check_batch.Statement.{statement}
 use Rattle.loc_batch.proofs.batch.check_batch.Tie as tie
-use Rattle.loc_batch.proofs.batch.check_batch.Reads as reads
-use Rattle.loc_batch.proofs.batch.check_batch.Lts as lts
-use Rattle.loc_batch.proofs.batch.rows_of.Reads as rows-of-reads
-use Rattle.loc_batch.proofs.entry.own_number.Reads as own-number-reads
-use Rattle.loc_batch.proofs.entry.record_at.Reads as record-at-reads
-use Rattle.loc_batch.proofs.entry.record_number.Reads as record-number-reads
 
 abbrev Inv-loop : tie.InvT-loop
 Inv-loop kind starts lens span-starts span-counts n e₀ rows₀ i₀ e rows i = Passed kind (entryAt kind (batch starts lens span-starts span-counts)) n (asEntry e) rows i
@@ -18,65 +13,50 @@ Inv-loop kind starts lens span-starts span-counts n e₀ rows₀ i₀ e rows i =
 abbrev μ-loop : tie.MeasureT-loop
 μ-loop kind starts lens span-starts span-counts n e₀ rows₀ i₀ e rows i = n - i
 
--- src/batch.rt:60:9
 record-at-requires : tie.Need-record-at-requires Inv-loop μ-loop
 record-at-requires c κs = search needs
 
--- src/batch.rt:63:5
 loop-holds : tie.Need-loop-holds Inv-loop μ-loop
 loop-holds c = search (needs, passed-begin)
 
--- src/batch.rt:64:13
 record-at-requires-2 : tie.Need-record-at-requires-2 Inv-loop μ-loop
 record-at-requires-2 c κs = search needs
 
--- src/batch.rt:65:13
 record-number-requires : tie.Need-record-number-requires Inv-loop μ-loop
 record-number-requires c κs = search needs
 
--- src/batch.rt:67:13
 returns : tie.Need-returns Inv-loop μ-loop
 returns c = search (needs, passed-refused)
 
--- src/batch.rt:69:17
 rows-of-requires : tie.Need-rows-of-requires Inv-loop μ-loop
 unfolding asEntry
 rows-of-requires c κs = strides-fit _ _ _ _ (c .before .record-number .ensures) (c .if1 .left)
 
--- src/batch.rt:69:9
 add-rows : tie.Need-add-rows Inv-loop μ-loop
 add-rows c = omega (arith, c .before .before .before .before .before .loop .inv .few, c .before .before .before .before .before .loop .inv .inside, c .rows-of .ensures .1)
 
--- src/batch.rt:71:9
 add-i : tie.Need-add-i Inv-loop μ-loop
 add-i c = search needs
 
--- src/batch.rt:63:5
 loop-less : tie.Need-loop-less Inv-loop μ-loop
 loop-less c = search needs
 
--- src/batch.rt:63:5
 loop-again : tie.Need-loop-again Inv-loop μ-loop
 loop-again c = search (needs, passed-turn)
 
--- src/batch.rt:73:9
 own-number-requires : tie.Need-own-number-requires Inv-loop μ-loop
 own-number-requires c κs = search needs
 
--- src/batch.rt:75:9
 returns-2 : tie.Need-returns-2 Inv-loop μ-loop
 returns-2 c = search (needs, last-refused)
 
--- src/batch.rt:77:13
 rows-of-requires-2 : tie.Need-rows-of-requires-2 Inv-loop μ-loop
 unfolding asEntry
 rows-of-requires-2 c κs = strides-fit _ _ _ _ (c .before .own-number .ensures) (c .if2 .left)
 
--- src/batch.rt:77:5
 add-rows-2 : tie.Need-add-rows-2 Inv-loop μ-loop
 add-rows-2 c = omega (arith, c .before .before .before .before .loop .inv .few, c .before .before .before .before .loop .inv .inside, c .rows-of2 .ensures .1)
 
--- src/batch.rt:56:1
 returns-3 : tie.Need-returns-3 Inv-loop μ-loop
 returns-3 c = search (needs, last-passed)
 

@@ -1,33 +1,26 @@
-use Rattle.loc_batch.specs.Lists.{batch}
+-- `batch::lists_agree` meets its contract.
+use borrow.Author.Needs.{needs}
 use denote.Ref.{now}
 use Rattle.loc_batch.proofs.BatchLaws.{uneven-starts, uneven-spans, even-paired, even-single}
-use borrow.Author.Needs.{needs}
+use Rattle.loc_batch.specs.Lists.{batch}
 use Rattle.loc_batch.proofs.batch.lists_agree.Statement.{statement}
 use Rattle.loc_batch.proofs.batch.lists_agree.Tie as tie
-use Rattle.loc_batch.proofs.batch.lists_agree.Reads as reads
-use Rattle.loc_batch.proofs.batch.lists_agree.Lts as lts
 
--- src/batch.rt:25:9
 returns : tie.Need-returns
 returns c = search (needs, uneven-starts)
 
--- src/batch.rt:29:16
 enum-told : tie.Need-enum-told
 enum-told c = search needs
 
--- src/batch.rt:30:17
 returns-2 : tie.Need-returns-2
 returns-2 c = search (needs, uneven-spans)
 
--- src/batch.rt:34:25
 enum-told-2 : tie.Need-enum-told-2
 enum-told-2 c = search needs
 
--- src/batch.rt:20:1
 returns-3 : tie.Need-returns-3
 returns-3 c = even-paired _ (batch (now (c .before .before .before .before .args .starts)) (now (c .before .before .before .before .args .lens)) (now (c .before .before .before .before .args .span-starts)) (now (c .before .before .before .before .args .span-counts))) (c .before .before .before .if1 .left) (c .before .enum-told .given .1) (c .if2 .left)
 
--- src/batch.rt:20:1
 returns-4 : tie.Need-returns-4
 returns-4 c = search (needs, even-single)
 

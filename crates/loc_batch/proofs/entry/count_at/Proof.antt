@@ -1,23 +1,18 @@
-use Rattle.loc_leaf.proofs.NumberLaws.{byte-past}
+-- `entry::count_at` meets its contract.
 use borrow.Author.Needs.{needs}
+use Rattle.loc_leaf.proofs.NumberLaws.{byte-past}
 use Rattle.loc_batch.proofs.entry.count_at.Statement.{statement}
 use Rattle.loc_batch.proofs.entry.count_at.Tie as tie
-use Rattle.loc_batch.proofs.entry.count_at.Reads as reads
-use Rattle.loc_batch.proofs.entry.count_at.Lts as lts
 
--- src/entry.rt:22:25
 mul-result : tie.Need-mul-result
 mul-result c = search needs
 
--- src/entry.rt:22:25
 shared-slice-read-result : tie.Need-shared-slice-read-result
 shared-slice-read-result c = search needs
 
--- src/entry.rt:19:1
 returns : tie.Need-returns
 returns c = search needs
 
--- src/entry.rt:19:1
 returns-2 : tie.Need-returns-2
 returns-2 c = search (needs, byte-past)
 

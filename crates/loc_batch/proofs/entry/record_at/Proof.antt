@@ -1,49 +1,36 @@
-use Rattle.loc_batch.proofs.EntryLaws.{record-paired, record-single}
+-- `entry::record_at` meets its contract.
 use borrow.Author.Needs.{needs}
+use Rattle.loc_batch.proofs.EntryLaws.{record-paired, record-single}
 use Rattle.loc_batch.proofs.entry.record_at.Statement.{statement}
 use Rattle.loc_batch.proofs.entry.record_at.Tie as tie
-use Rattle.loc_batch.proofs.entry.record_at.Reads as reads
-use Rattle.loc_batch.proofs.entry.record_at.Lts as lts
-use Rattle.loc_batch.proofs.entry.count_at.Reads as count-at-reads
-use Rattle.loc_batch.proofs.entry.number_at.Reads as number-at-reads
 
--- src/entry.rt:30:20
 enum-told : tie.Need-enum-told
 enum-told c = search needs
 
--- src/entry.rt:30:20
 number-at-requires : tie.Need-number-at-requires
 number-at-requires c κs = search needs
 
--- src/entry.rt:31:18
 number-at-requires-2 : tie.Need-number-at-requires-2
 number-at-requires-2 c κs = search needs
 
--- src/entry.rt:32:25
 number-at-requires-3 : tie.Need-number-at-requires-3
 number-at-requires-3 c κs = search needs
 
--- src/entry.rt:33:20
 count-at-requires : tie.Need-count-at-requires
 count-at-requires c κs = search needs
 
--- src/entry.rt:36:20
 enum-told-2 : tie.Need-enum-told-2
 enum-told-2 c = search needs
 
--- src/entry.rt:36:20
 number-at-requires-4 : tie.Need-number-at-requires-4
 number-at-requires-4 c κs = search needs
 
--- src/entry.rt:37:18
 number-at-requires-5 : tie.Need-number-at-requires-5
 number-at-requires-5 c κs = search needs
 
--- src/entry.rt:25:1
 returns : tie.Need-returns
 returns c = search (needs, record-paired)
 
--- src/entry.rt:25:1
 returns-2 : tie.Need-returns-2
 returns-2 c = search (needs, record-single)
 

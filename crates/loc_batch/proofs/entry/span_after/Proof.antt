@@ -1,25 +1,19 @@
+-- `entry::span_after` meets its contract.
+use borrow.Author.Needs.{needs}
 use Rattle.loc_batch.specs.Lists.{asEntry}
 use Rattle.loc_calls.specs.Table.{spanAfter}
-use borrow.Author.Needs.{needs}
 use Rattle.loc_batch.proofs.entry.span_after.Statement.{statement}
 use Rattle.loc_batch.proofs.entry.span_after.Tie as tie
-use Rattle.loc_batch.proofs.entry.span_after.Reads as reads
-use Rattle.loc_batch.proofs.entry.span_after.Lts as lts
-use Rattle.loc_batch.proofs.entry.saturating_add.Reads as saturating-add-reads
 
--- src/entry.rt:64:39
 cast-saturating-add : tie.Need-cast-saturating-add
 cast-saturating-add c = search needs
 
--- src/entry.rt:64:34
 mul-saturating-add : tie.Need-mul-saturating-add
 mul-saturating-add c = search needs
 
--- src/entry.rt:64:5
 saturating-add-requires : tie.Need-saturating-add-requires
 saturating-add-requires c κs = search needs
 
--- src/entry.rt:61:1
 returns : tie.Need-returns
 unfolding spanAfter asEntry
 returns c = search needs

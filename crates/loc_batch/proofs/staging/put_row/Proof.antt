@@ -1,59 +1,45 @@
-use Rattle.loc_batch.proofs.StageLaws.{row-paired, row-single}
+-- `staging::put_row` meets its contract.
 use borrow.Author.Needs.{needs}
+use Rattle.loc_batch.proofs.StageLaws.{row-paired, row-single}
 use Rattle.loc_batch.proofs.staging.put_row.Statement.{statement}
 use Rattle.loc_batch.proofs.staging.put_row.Tie as tie
-use Rattle.loc_batch.proofs.staging.put_row.Reads as reads
-use Rattle.loc_batch.proofs.staging.put_row.Lts as lts
-use Rattle.loc_leaf.proofs.file.put_le.Reads as put-le-reads
 
--- src/stage.rt:40:19
 cast-strides : tie.Need-cast-strides
 cast-strides c = search needs
 
--- src/stage.rt:41:17
 cast-spans : tie.Need-cast-spans
 cast-spans c = search needs
 
--- src/stage.rt:42:5
 put-le-requires : tie.Need-put-le-requires
 put-le-requires c κs = search needs
 
--- src/stage.rt:43:17
 add-put-le : tie.Need-add-put-le
 add-put-le c = search needs
 
--- src/stage.rt:43:5
 put-le-requires-2 : tie.Need-put-le-requires-2
 put-le-requires-2 c κs = search needs
 
--- src/stage.rt:46:20
 enum-told : tie.Need-enum-told
 enum-told c = search needs
 
--- src/stage.rt:46:25
 add-put-le-2 : tie.Need-add-put-le-2
 add-put-le-2 c = search needs
 
--- src/stage.rt:46:13
 put-le-requires-3 : tie.Need-put-le-requires-3
 put-le-requires-3 c κs = search needs
 
 enum-told-2 : tie.Need-enum-told-2
 enum-told-2 c = search needs
 
--- src/stage.rt:36:1
 same-length : tie.Need-same-length
 same-length c = search needs
 
--- src/stage.rt:36:1
 returns : tie.Need-returns
 returns c = search (needs, row-paired)
 
--- src/stage.rt:36:1
 same-length-2 : tie.Need-same-length-2
 same-length-2 c = search needs
 
--- src/stage.rt:36:1
 returns-2 : tie.Need-returns-2
 returns-2 c = search (needs, row-single)
 

@@ -1,0 +1,61 @@
+-- Append as a whole, in the form in which the code meets it: number, value and areas at once.
+-- The places of a ready stage are those of the definition.
+use Prim.Native.Nat.{ℕ, zero, suc}
+use mathlib.Core.Path.{_≡_, refl, sym, ap, _∙_}
+use mathlib.Core.Bool.{Bool, not}
+use mathlib.Core.List.{List, [], _∷_}
+use native.Mathlib.Omega.{arith}
+use Rattle.loc_leaf.specs.declared.Kind.{Kind}
+use Rattle.loc_leaf.specs.Bytes.{Bytes}
+use Rattle.loc_leaf.specs.Answers.{refuse, _orElse_}
+use Rattle.loc_leaf.specs.Area.{fill}
+use Rattle.loc_calls.specs.Areas.{Areas, areas, sizes, count}
+use Rattle.loc_calls.specs.Table.{Entry, Batch, append, entries, table}
+use Rattle.loc_calls.specs.Stores.{Place, run, differing, settled, staged, appendPlaces, newEnds}
+use Rattle.loc_calls.specs.Calls.{tooSmall, unread, isOpening, refusal, places, value, call}
+use Rattle.loc_calls.proofs.Batches.{orElse-zero}
+use Rattle.loc_store.proofs.CallLaws.{Gives, refused, accepted}
+use Rattle.loc_batch.specs.Lists.{entryAt, listed}
+use Rattle.loc_batch.specs.Plans.{growing, stagePlaces, RoomPast, Ready, Planned}
+use Rattle.loc_batch.specs.declared.Stage.{Stage}
+use Rattle.loc_batch.specs.declared.Decision.{Decision}
+
+pub places-are : (k : Kind) (a : Areas) (es : List Entry) (t : Stage) → Ready k a es t → stagePlaces k es t ≡ appendPlaces a (staged k (count a) es)
+unfolding stagePlaces appendPlaces growing differing staged
+places-are k a es t r =
+    rw (r .oldSlots, r .oldRows, r .oldCheckpoints, r .newSlots, r .newRows, r .newCheckpoints, r .base) refl
+
+module _ (k : Kind) (s r c : Bytes) (b : Batch) (p first : ℕ) (e : first ≡ refuse (tooSmall (areas s r c)) 1 orElse refuse (not (settled k (areas s r c))) 6) where
+  append-number : refusal k (append b) (areas s r c) ≡ first orElse table k (count (areas s r c)) (newEnds k (areas s r c)) (sizes (areas s r c)) (append b)
+  unfolding refusal isOpening unread
+  append-number = rw e (joined (refuse (tooSmall (areas s r c)) 1) (refuse (not (settled k (areas s r c))) 6) (table k (count (areas s r c)) (newEnds k (areas s r c)) (sizes (areas s r c)) (append b)))
+    where
+      joined : (l m n : ℕ) → l orElse m orElse n orElse 0 ≡ (l orElse m) orElse n
+      joined zero m n = ap (λ (i : ℕ). m orElse i) (orElse-zero n)
+      joined (suc l) m n = refl
+
+  pub append-refused : (first ≡ 0 → ⊥) → Gives (call k p (append b) (areas s r c)) (record { number = first; value = 0 }) (areas s r c)
+  append-refused h = refused k p (append b) (areas s r c) first (append-number ∙ stays first _ h) h
+    where
+      stays : (m n : ℕ) → (m ≡ 0 → ⊥) → m orElse n ≡ m
+      stays zero n g = absurd (g refl)
+      stays (suc m) n g = refl
+
+  module _ (z : first ≡ 0) (d : Decision) (q : Planned k (areas s r c) b d) where
+    planned-number : refusal k (append b) (areas s r c) ≡ d .number
+    planned-number = append-number ∙ rw z (sym (q .number))
+
+    pub append-planned : (d .number ≡ 0 → ⊥) → Gives (call k p (append b) (areas s r c)) (record { number = d .number; value = 0 }) (areas s r c)
+    append-planned h = refused k p (append b) (areas s r c) (d .number) planned-number h
+
+    module _ (ok : d .number ≡ 0) where
+      pub append-room : RoomPast k (d .stage .base) (d .stage .n) (listed (entryAt k b) 0 (d .stage .n)) (areas s r c)
+      append-room = q .ready ok .room
+
+      pub append-done : (x y o : Bytes) (m : ℕ) → areas x y o ≡ run p (stagePlaces k (listed (entryAt k b) 0 (d .stage .n)) (d .stage)) (areas s r c) → m ≡ fill 2 x
+          → Gives (call k p (append b) (areas s r c)) (record { number = 0; value = m }) (areas x y o)
+      unfolding places value count
+      append-done x y o m g em =
+          rw em (accepted k p (append b) (areas s r c) (areas x y o) (planned-number ∙ ok)
+          (g ∙ ap (λ (ps : List Place). run p ps (areas s r c)) (places-are k (areas s r c) (listed (entryAt k b) 0 (d .stage .n)) (d .stage) (q .ready ok)
+          ∙ ap (λ (l : List Entry). appendPlaces (areas s r c) (staged k (count (areas s r c)) l)) (sym (q .entries ok)))))

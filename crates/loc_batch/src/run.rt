@@ -1,0 +1,72 @@
+// Append: its refusals, then the stores of its first places.
+// Of an inner crate, as the public calls of both kinds use it.
+ghost use mathlib.Core.Path.{_≡_};
+ghost use Rattle.loc_calls.specs.Areas.{areas};
+ghost use Rattle.loc_calls.specs.Table.{append};
+ghost use Rattle.loc_calls.specs.Calls.{call};
+ghost use Rattle.loc_batch.specs.Lists.{batch};
+use crate::append::append_stores;
+use crate::plan::plan_append;
+use loc_leaf::Answer;
+use loc_leaf::Kind;
+use loc_store::check::call_refusal;
+use loc_store::plan::piece_count;
+
+// 1, 6; 7 to 13; then the first `places` of the four. The value is the count that the areas then hold.
+pub fn append_run(
+    kind: Kind,
+    slots: &mut [u8],
+    rows: &mut [u8],
+    checkpoints: &mut [u8],
+    starts: &[u64],
+    lens: &[u64],
+    span_starts: &[u64],
+    span_counts: &[u32],
+    places: u64,
+) -> Answer
+    ensures { λ r. ⌜ (r ≡ call kind places (append (batch (now (starts .entry)) (now (lens .entry)) (now («span_starts» .entry)) (now («span_counts» .entry))))
+        (areas (now (slots .entry)) (now (rows .entry)) (now (checkpoints .entry))) .answer)
+        × (areas (now (slots .exit)) (now (rows .exit)) (now (checkpoints .exit))
+        ≡ call kind places (append (batch (now (starts .entry)) (now (lens .entry)) (now («span_starts» .entry)) (now («span_counts» .entry))))
+        (areas (now (slots .entry)) (now (rows .entry)) (now (checkpoints .entry))) .areas) ⌝ }
+{
+    let first = call_refusal(kind, slots, rows, checkpoints);
+    if first != 0 {
+        return Answer {
+            number: first,
+            value: 0,
+        };
+    }
+    let plan = plan_append(
+        kind,
+        slots,
+        rows,
+        checkpoints,
+        starts,
+        lens,
+        span_starts,
+        span_counts,
+    );
+    let number = plan.number;
+    if number != 0 {
+        return Answer { number, value: 0 };
+    }
+    let stage = plan.stage;
+    append_stores(
+        slots,
+        rows,
+        checkpoints,
+        kind,
+        starts,
+        lens,
+        span_starts,
+        span_counts,
+        stage,
+        places,
+    );
+    let left = piece_count(slots, 2) as u64;
+    Answer {
+        number: 0,
+        value: left,
+    }
+}
