@@ -19,7 +19,7 @@ use Rattle.loc_leaf.specs.Slot.{stridesRefusal, slot, needsRow}
 use Rattle.loc_leaf.specs.Rows.{row}
 use Rattle.loc_calls.specs.Table.{Entry, Batch, valueOf, uneven, spanless, breaks, entryRefusal, entriesRefusal}
 use Rattle.loc_calls.specs.Stores.{gather, rowOf}
-use Rattle.loc_calls.proofs.Batches.{orElse-left, orElse-right, orElse-zero, refuse-zero}
+use Rattle.loc_leaf.proofs.Refusals.{orElse-first, orElse-left, orElse-right, orElse-zero, refuse-zero}
 use Rattle.loc_batch.specs.Lists.{batch, entryAt, asEntry, listed, rowsOf, rowTotal, Tested}
 use Rattle.loc_batch.specs.declared.Record.{Record}
 
@@ -141,11 +141,7 @@ module _ (k : Kind) (f : ℕ → Entry) (n : ℕ) where
       }
 
       pub passed-refused : (number ≡ 0 → ⊥) → Tested k (listed f 0 n) number 0
-      passed-refused z = record { refused = sym (both ∙ stays number z); total = λ e. absurd (z e) }
-        where
-          stays : (m : ℕ) → (m ≡ 0 → ⊥) → m orElse entriesRefusal k (d ∷ listed f (i + 1) (n - (i + 1))) ≡ m
-          stays zero g = absurd (g refl)
-          stays (suc m) g = refl
+      passed-refused z = record { refused = sym (both ∙ orElse-first number _ z); total = λ e. absurd (z e) }
 
     module _ (h : n ≤ i) (number : ℕ) (q : number ≡ entryRefusal k e []) where
       last : entriesRefusal k (listed f 0 n) ≡ number

@@ -13,6 +13,7 @@ use Rattle.loc_leaf.specs.declared.Kind.the-variants.{Paired, Single}
 use Rattle.loc_leaf.specs.declared.Answer.{Answer}
 use Rattle.loc_leaf.specs.Answers.{refuse, _orElse_, answer}
 use Rattle.loc_leaf.specs.Slot.{stridesRefusal, stridesFrom}
+use Rattle.loc_leaf.proofs.Refusals.{orElse-first}
 use Rattle.loc_calls.specs.Table.{Entry, Batch, bodyAfter, spanAfter, spanless, breaks, entryRefusal}
 use Rattle.loc_batch.specs.Lists.{batch, entryAt, asEntry}
 use Rattle.loc_batch.specs.declared.Record.{Record}
@@ -75,11 +76,7 @@ module _ (k : Kind) (e next : Entry) (own : ℕ) (eo : own ≡ entryRefusal k e 
       both (suc x) y = refl
 
   pub number-own : (own ≡ 0 → ⊥) → own ≡ entryRefusal k e (next ∷ [])
-  number-own h = sym (split ∙ stays own h)
-    where
-      stays : (n : ℕ) → (n ≡ 0 → ⊥) → n orElse breaks e (next ∷ []) ≡ n
-      stays zero g = absurd (g refl)
-      stays (suc n) g = refl
+  number-own h = sym (split ∙ orElse-first own _ h)
 
   pub number-break : own ≡ 0 → (r : ℕ) → r ≡ breaks e (next ∷ []) → r ≡ entryRefusal k e (next ∷ [])
   number-break z r q = q ∙ sym (split ∙ rw z refl)

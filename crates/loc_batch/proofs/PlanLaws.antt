@@ -17,6 +17,7 @@ use Rattle.loc_leaf.specs.Bytes.{Bytes}
 use Rattle.loc_leaf.specs.Area.{counted}
 use Rattle.loc_leaf.specs.Kind.{rowWidth, checkpointWidth}
 use Rattle.loc_leaf.proofs.Booleans.{is?, both-left, both-right}
+use Rattle.loc_leaf.proofs.Refusals.{orElse-first}
 use Rattle.loc_leaf.proofs.AreaLaws.{counted-le, length-flatten}
 use Rattle.loc_calls.specs.Areas.{Areas, sizes, count}
 use Rattle.loc_calls.specs.Table.{Entry, Batch, append, zipped, entries, uneven, entriesRefusal, endPast, batchRefusal, table}
@@ -229,14 +230,10 @@ module _ (k : Kind) (a : Areas) (b : Batch) (agree : Bool) (ea : agree ≡ not (
   module _ (z : n ≡ 0 → ⊥) (number rows : ℕ) (tested : Tested k (listed (entryAt k b) 0 n) number rows) where
     pub plan-refused : (t : Stage) → (number ≡ 0 → ⊥) → Planned k a b (record { number = number; stage = t })
     plan-refused t g = record {
-      number = sym (all-of ∙ some-listed k a b agree ea h n z ∙ rw (← tested .refused) (stays number _ g));
+      number = sym (all-of ∙ some-listed k a b agree ea h n z ∙ rw (← tested .refused) (orElse-first number _ g));
       entries = λ e. absurd (g e);
       ready = λ e. absurd (g e);
     }
-      where
-        stays : (m j : ℕ) → (m ≡ 0 → ⊥) → m orElse j ≡ m
-        stays zero j q = absurd (q refl)
-        stays (suc m) j q = refl
 
     module _ (ok : number ≡ 0) (d : Decision) (r : Reaches k (length (a .slots)) (length (a .rows)) (length (a .checkpoints)) old base n rows d) where
       reach-number : d .number ≡ batchRefusal k (newEnds k a (listed (entryAt k b) 0 n)) (sizes a) (listed (entryAt k b) 0 n)

@@ -13,8 +13,9 @@ use Rattle.loc_calls.specs.Areas.{Areas, areas, sizes, count}
 use Rattle.loc_calls.specs.Table.{Entry, Batch, append, entries, table}
 use Rattle.loc_calls.specs.Stores.{Place, run, differing, settled, staged, appendPlaces, newEnds}
 use Rattle.loc_calls.specs.Calls.{tooSmall, unread, isOpening, refusal, places, value, call}
-use Rattle.loc_calls.proofs.Batches.{orElse-zero}
-use Rattle.loc_store.proofs.CallLaws.{Gives, refused, accepted}
+use Rattle.loc_leaf.proofs.Refusals.{orElse-first, orElse-zero}
+use Rattle.loc_calls.specs.Promises.{Stored}
+use Rattle.loc_calls.proofs.Outcomes.{refused, accepted, refusal-after}
 use Rattle.loc_batch.specs.Lists.{entryAt, listed}
 use Rattle.loc_batch.specs.Plans.{growing, stagePlaces, RoomPast, Ready, Planned}
 use Rattle.loc_batch.specs.declared.Stage.{Stage}
@@ -27,25 +28,17 @@ places-are k a es t r =
 
 module _ (k : Kind) (s r c : Bytes) (b : Batch) (p first : ℕ) (e : first ≡ refuse (tooSmall (areas s r c)) 1 orElse refuse (not (settled k (areas s r c))) 6) where
   append-number : refusal k (append b) (areas s r c) ≡ first orElse table k (count (areas s r c)) (newEnds k (areas s r c)) (sizes (areas s r c)) (append b)
-  unfolding refusal isOpening unread
-  append-number = rw e (joined (refuse (tooSmall (areas s r c)) 1) (refuse (not (settled k (areas s r c))) 6) (table k (count (areas s r c)) (newEnds k (areas s r c)) (sizes (areas s r c)) (append b)))
-    where
-      joined : (l m n : ℕ) → l orElse m orElse n orElse 0 ≡ (l orElse m) orElse n
-      joined zero m n = ap (λ (i : ℕ). m orElse i) (orElse-zero n)
-      joined (suc l) m n = refl
+  unfolding isOpening unread
+  append-number = refusal-after k (append b) (areas s r c) first refl e ∙ ap (λ (n : ℕ). first orElse n) (orElse-zero (table k (count (areas s r c)) (newEnds k (areas s r c)) (sizes (areas s r c)) (append b)))
 
-  pub append-refused : (first ≡ 0 → ⊥) → Gives (call k p (append b) (areas s r c)) (record { number = first; value = 0 }) (areas s r c)
-  append-refused h = refused k p (append b) (areas s r c) first (append-number ∙ stays first _ h) h
-    where
-      stays : (m n : ℕ) → (m ≡ 0 → ⊥) → m orElse n ≡ m
-      stays zero n g = absurd (g refl)
-      stays (suc m) n g = refl
+  pub append-refused : (first ≡ 0 → ⊥) → Stored (call k p (append b) (areas s r c)) (record { number = first; value = 0 }) (areas s r c)
+  append-refused h = refused k p (append b) (areas s r c) first (append-number ∙ orElse-first first _ h) h
 
   module _ (z : first ≡ 0) (d : Decision) (q : Planned k (areas s r c) b d) where
     planned-number : refusal k (append b) (areas s r c) ≡ d .number
     planned-number = append-number ∙ rw z (sym (q .number))
 
-    pub append-planned : (d .number ≡ 0 → ⊥) → Gives (call k p (append b) (areas s r c)) (record { number = d .number; value = 0 }) (areas s r c)
+    pub append-planned : (d .number ≡ 0 → ⊥) → Stored (call k p (append b) (areas s r c)) (record { number = d .number; value = 0 }) (areas s r c)
     append-planned h = refused k p (append b) (areas s r c) (d .number) planned-number h
 
     module _ (ok : d .number ≡ 0) where
@@ -53,7 +46,7 @@ module _ (k : Kind) (s r c : Bytes) (b : Batch) (p first : ℕ) (e : first ≡ r
       append-room = q .ready ok .room
 
       pub append-done : (x y o : Bytes) (m : ℕ) → areas x y o ≡ run p (stagePlaces k (listed (entryAt k b) 0 (d .stage .n)) (d .stage)) (areas s r c) → m ≡ fill 2 x
-          → Gives (call k p (append b) (areas s r c)) (record { number = 0; value = m }) (areas x y o)
+          → Stored (call k p (append b) (areas s r c)) (record { number = 0; value = m }) (areas x y o)
       unfolding places value count
       append-done x y o m g em =
           rw em (accepted k p (append b) (areas s r c) (areas x y o) (planned-number ∙ ok)

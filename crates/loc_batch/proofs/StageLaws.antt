@@ -22,7 +22,7 @@ use Rattle.loc_leaf.proofs.Stored.{length-bytes, length-store}
 use Rattle.loc_leaf.proofs.ValueLaws.{length-slot, length-row}
 use Rattle.loc_leaf.specs.Answers.{_orElse_}
 use Rattle.loc_calls.specs.Table.{Entry, valueOf, bodyAfter, spanAfter, entryRefusal, entriesRefusal}
-use Rattle.loc_calls.proofs.Batches.{orElse-left, orElse-right}
+use Rattle.loc_leaf.proofs.Refusals.{orElse-left, orElse-right}
 use Rattle.loc_calls.specs.Stores.{checkpoint, gather, slotOf, rowOf, checkpointOf}
 use Rattle.loc_calls.proofs.Gathered.{length-checkpoint}
 use Rattle.loc_batch.specs.Lists.{listed, Written, Room, Staged}

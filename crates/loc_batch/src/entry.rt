@@ -4,11 +4,12 @@ ghost use mathlib.Core.Path.{_≡_};
 ghost use mathlib.Core.List.{[], _∷_};
 ghost use Prim.Native.Nat.{_+_, _*_, _/_, _^_, _≤_, _<_};
 ghost use lib.ListN.{getD};
-ghost use Rattle.loc_calls.specs.Table.{saturated, valueOf, bodyAfter, spanAfter, spanless, breaks, entryRefusal};
+ghost use Rattle.loc_calls.specs.Table.{valueOf, bodyAfter, spanAfter, spanless, breaks, entryRefusal};
 ghost use Rattle.loc_batch.specs.Lists.{batch, entryAt, asEntry};
 use crate::Record;
 use loc_leaf::Kind;
 use loc_leaf::Value;
+use loc_leaf::delta_loc::saturating_add;
 
 fn number_at(list: &[u64], i: usize) -> u64
     ensures { λ r. ⌜ r ≡ getD (now (list .entry)) i 0 ⌝ }
@@ -46,17 +47,6 @@ pub fn record_at(
             spans: 0,
         },
     }
-}
-
-// A sum that stops at the largest number.
-pub fn saturating_add(a: u64, b: u64) -> u64
-    ensures { λ r. ⌜ r ≡ saturated (a + b) ⌝ }
-{
-    let room = 0xffff_ffff_ffff_ffff - a;
-    if room < b {
-        return 0xffff_ffff_ffff_ffff;
-    }
-    a + b
 }
 
 pub fn body_after(e: Record) -> u64

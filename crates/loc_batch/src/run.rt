@@ -1,9 +1,9 @@
 // Append: its refusals, then the stores of its first places.
 // Of an inner crate, as the public calls of both kinds use it.
-ghost use mathlib.Core.Path.{_≡_};
 ghost use Rattle.loc_calls.specs.Areas.{areas};
 ghost use Rattle.loc_calls.specs.Table.{append};
 ghost use Rattle.loc_calls.specs.Calls.{call};
+ghost use Rattle.loc_calls.specs.Promises.{Stored};
 ghost use Rattle.loc_batch.specs.Lists.{batch};
 use crate::append::append_stores;
 use crate::plan::plan_append;
@@ -24,11 +24,8 @@ pub fn append_run(
     span_counts: &[u32],
     places: u64,
 ) -> Answer
-    ensures { λ r. ⌜ (r ≡ call kind places (append (batch (now (starts .entry)) (now (lens .entry)) (now («span_starts» .entry)) (now («span_counts» .entry))))
-        (areas (now (slots .entry)) (now (rows .entry)) (now (checkpoints .entry))) .answer)
-        × (areas (now (slots .exit)) (now (rows .exit)) (now (checkpoints .exit))
-        ≡ call kind places (append (batch (now (starts .entry)) (now (lens .entry)) (now («span_starts» .entry)) (now («span_counts» .entry))))
-        (areas (now (slots .entry)) (now (rows .entry)) (now (checkpoints .entry))) .areas) ⌝ }
+    ensures { λ r. ⌜ Stored (call kind places (append (batch (now (starts .entry)) (now (lens .entry)) (now («span_starts» .entry)) (now («span_counts» .entry)))) (areas (now (slots .entry)) (now (rows .entry)) (now (checkpoints .entry))))
+        r (areas (now (slots .exit)) (now (rows .exit)) (now (checkpoints .exit))) ⌝ }
 {
     let first = call_refusal(kind, slots, rows, checkpoints);
     if first != 0 {

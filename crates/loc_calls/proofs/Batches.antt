@@ -15,6 +15,7 @@ use Rattle.loc_leaf.specs.Bytes.{Bytes}
 use Rattle.loc_leaf.specs.Answers.{refuse, _orElse_}
 use Rattle.loc_leaf.specs.Slot.{stridesRefusal}
 use Rattle.loc_leaf.proofs.Booleans.{neither-left, neither-right}
+use Rattle.loc_leaf.proofs.Refusals.{orElse-left, orElse-right, orElse-zero, refuse-zero}
 use Rattle.loc_leaf.proofs.AreaLaws.{counted-le}
 use Rattle.loc_leaf.proofs.ValueLaws.{SpansFit}
 use Rattle.loc_calls.specs.Areas.{Three, Areas, sizes, count}
@@ -22,24 +23,6 @@ use Rattle.loc_calls.specs.Table.{Entry, valueOf, bodyAfter, spanAfter, 
 use Rattle.loc_calls.specs.Stores.{gather, staged, newEnd, newEnds}
 use Rattle.loc_calls.proofs.Gathered.{ValidEntry, AllValid}
 use Rattle.loc_calls.proofs.Chains.{lens, spans, lens-append, spans-append, Chained, chained-append, Good}
-
--- ---- refusals
-
-pub orElse-left : (x y : ℕ) → (x orElse y) ≡ 0 → x ≡ 0
-orElse-left zero y h = refl
-orElse-left (suc x) y h = h
-
-pub orElse-right : (x y : ℕ) → (x orElse y) ≡ 0 → y ≡ 0
-orElse-right zero y h = h
-orElse-right (suc x) y h = absurd (suc-ne-zero x h)
-
-pub orElse-zero : (x : ℕ) → (x orElse 0) ≡ x
-orElse-zero zero = refl
-orElse-zero (suc x) = refl
-
-pub refuse-zero : (b : Bool) (n : ℕ) → refuse b (suc n) ≡ 0 → b ≡ false
-refuse-zero true n h = absurd (suc-ne-zero n h)
-refuse-zero false n h = refl
 
 -- ---- valid records
 

@@ -3,6 +3,7 @@ pub mod Holds
 pub mod State
 pub mod Opening
 pub mod Settled
+pub mod Outcomes
 pub mod Chains
 pub mod Batches
 pub mod Appending

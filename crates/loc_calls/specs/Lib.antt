@@ -4,3 +4,4 @@ pub mod Stores
 pub mod Reading
 pub mod Audit
 pub mod Calls
+pub mod Promises

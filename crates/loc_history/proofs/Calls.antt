@@ -24,7 +24,8 @@ use Rattle.loc_calls.specs.Calls.{unlessRefused, isOpening, refusal, places, pl
 use Rattle.loc_calls.proofs.Gathered.{AllValid, valid-append}
 use Rattle.loc_calls.proofs.Settled.{sizes-run, opening-accepted, refusal-is}
 use Rattle.loc_calls.proofs.Chains.{lens, spans, Chained, chained-at, Good}
-use Rattle.loc_calls.proofs.Batches.{orElse-right, orElse-zero, refuse-zero, SpansOf, all-valid, Fits, batch-tested, batch-fits}
+use Rattle.loc_leaf.proofs.Refusals.{orElse-right, orElse-zero, refuse-zero}
+use Rattle.loc_calls.proofs.Batches.{SpansOf, all-valid, Fits, batch-tested, batch-fits}
 use Rattle.loc_calls.proofs.Appending.{new-ends, written-full}
 use Rattle.loc_calls.proofs.Reading.{none, entryWords, words-are, none-unread}
 use Rattle.loc_history.specs.Book.{Rec, recOf, records, bookEnds, bookRefusal, bookNext, recordWords, bookWords, bookReply, bookTorn}

@@ -1,4 +1,5 @@
 pub mod Booleans
+pub mod Refusals
 pub mod NumberLaws
 pub mod Stored
 pub mod AreaLaws

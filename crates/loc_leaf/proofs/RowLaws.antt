@@ -39,7 +39,7 @@ module _ (k : Kind) (row : Bytes) (s : ℕ) (es : s ≡ numberAt 4 8 row) where
   value-single e = rw (e, es) refl
 
 -- a field lies within the row
-field-in : (n at w : ℕ) (xs : Bytes) → at + n ≤ w → numberAt n at (take w xs) ≡ numberAt n at xs
+pub field-in : (n at w : ℕ) (xs : Bytes) → at + n ≤ w → numberAt n at (take w xs) ≡ numberAt n at xs
 unfolding numberAt
 field-in n at w xs h = ap number (take-drop n at (take w xs) ∙ ap (drop at) (take-take (at + n) w xs h) ∙ sym (take-drop n at xs))
 

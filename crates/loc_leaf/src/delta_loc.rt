@@ -49,6 +49,17 @@ pub fn checkpoint_width(kind: Kind) -> usize
     }
 }
 
+// A sum that stops at the largest number.
+pub fn saturating_add(a: u64, b: u64) -> u64
+    ensures { λ r. ⌜ r ≡ min (2 ^ 64 - 1) (a + b) ⌝ }
+{
+    let room = 0xffff_ffff_ffff_ffff - a;
+    if room < b {
+        return 0xffff_ffff_ffff_ffff;
+    }
+    a + b
+}
+
 pub fn loc_window(id: u64) -> u64
     ensures { λ r. ⌜ r ≡ windowOf id ⌝ }
 {

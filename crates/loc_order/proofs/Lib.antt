@@ -1,3 +1,4 @@
 pub mod OrderLaws
 pub mod MergeLaws
 pub mod HalfLaws
+pub mod KeyLaws

@@ -8,13 +8,14 @@ use mathlib.Core.List.{List, [], _∷_, _++_}
 use native.Mathlib.Omega.{arith}
 use lib.Dec.{ltb, eqb}
 use lib.ListN.{length}
-use borrow.Author.Tests.{ltb-false, eq-eqb, ne-eqb, eqb-true, not-true}
+use borrow.Author.Tests.{ltb-false, eq-eqb, ne-eqb, eqb-true, not-true, not-false}
 use Rattle.loc_leaf.specs.declared.Kind.{Kind}
 use Rattle.loc_leaf.specs.Bytes.{Bytes}
 use Rattle.loc_leaf.specs.Answers.{refuse, _orElse_}
 use Rattle.loc_leaf.specs.Area.{counted}
 use Rattle.loc_leaf.specs.Kind.{rowWidth, checkpointWidth}
 use Rattle.loc_leaf.specs.Rows.{rowList, ascending}
+use Rattle.loc_leaf.proofs.Refusals.{orElse-left, orElse-right, refuse-zero}
 use Rattle.loc_leaf.proofs.Booleans.{is?, both-left, neither-left, neither-right}
 use Rattle.loc_calls.specs.Areas.{Areas, areas}
 use Rattle.loc_calls.specs.Stores.{Place, keep, slotLength, rowLength, checkpointLength, write, step, run, differing, truncatePlaces, ruled, openPlaces, ragged, openRefusal, stores, anyStores, settled}
@@ -124,26 +125,9 @@ not-small s r c b e h =
     first : (ltb (length s) 16 || ltb (length r) 16) ≡ false
     first = neither-left (ltb (length s) 16 || ltb (length r) 16) (ltb (length c) 16) (sym e ∙ h)
 
--- the last of refusals where all are 0
-or-left : (m n : ℕ) → m orElse n ≡ 0 → m ≡ 0
-or-left zero n h = refl
-or-left (suc m) n h = h
-
-or-right : (m n : ℕ) → m orElse n ≡ 0 → n ≡ 0
-or-right zero n h = h
-or-right (suc m) n h = absurd (omega arith)
-
-refuse-off : (b : Bool) (n : ℕ) → refuse b (suc n) ≡ 0 → b ≡ false
-refuse-off true n h = absurd (omega arith)
-refuse-off false n h = refl
-
-not-off : (b : Bool) → not b ≡ false → b ≡ true
-not-off true h = refl
-not-off false h = sym h
-
 pub opened-ascends : (k : Kind) (s r c : Bytes) (n : ℕ) → n ≡ openRefusal k (areas s r c) → n ≡ 0 → ascending 0 (rowList k r) ≡ true
 unfolding openRefusal
-opened-ascends k s r c n e h = not-off (ascending 0 (rowList k r)) (refuse-off (not (ascending 0 (rowList k r))) 4 (or-right four five (or-right three (four orElse five) (or-right two (three orElse four orElse five) (sym e ∙ h)))))
+opened-ascends k s r c n e h = not-false (ascending 0 (rowList k r)) (refuse-zero (not (ascending 0 (rowList k r))) 4 (orElse-right four five (orElse-right three (four orElse five) (orElse-right two (three orElse four orElse five) (sym e ∙ h)))))
   where
     two : ℕ
     two = refuse (ragged 2 s) 2
@@ -160,10 +144,10 @@ opened-ascends k s r c n e h = not-off (ascending 0 (rowList k r)) (refuse-off (
 -- of number 1 and 6
 module _ (k : Kind) (s r c : Bytes) (n : ℕ) (e : n ≡ refuse (tooSmall (areas s r c)) 1 orElse refuse (not (settled k (areas s r c))) 6) (h : n ≡ 0) where
   pub accepted-sized : Sized (areas s r c)
-  accepted-sized = not-small s r c (tooSmall (areas s r c)) refl (refuse-off (tooSmall (areas s r c)) 0 (or-left _ (refuse (not (settled k (areas s r c))) 6) (sym e ∙ h)))
+  accepted-sized = not-small s r c (tooSmall (areas s r c)) refl (refuse-zero (tooSmall (areas s r c)) 0 (orElse-left _ (refuse (not (settled k (areas s r c))) 6) (sym e ∙ h)))
 
   pub accepted-settled : settled k (areas s r c) ≡ true
-  accepted-settled = not-off (settled k (areas s r c)) (refuse-off (not (settled k (areas s r c))) 5 (or-right (refuse (tooSmall (areas s r c)) 1) _ (sym e ∙ h)))
+  accepted-settled = not-false (settled k (areas s r c)) (refuse-zero (not (settled k (areas s r c))) 5 (orElse-right (refuse (tooSmall (areas s r c)) 1) _ (sym e ∙ h)))
 
   pub accepted-opens : openRefusal k (areas s r c) ≡ 0
   unfolding settled

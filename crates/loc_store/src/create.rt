@@ -1,7 +1,7 @@
 // Creation: the length of an empty area, three times.
 // Of an inner crate, as the public calls of both kinds use it.
-ghost use mathlib.Core.Path.{_≡_};
 ghost use Rattle.loc_calls.specs.Calls.{create};
+ghost use Rattle.loc_calls.specs.Promises.{Stored};
 ghost use Rattle.loc_calls.specs.Areas.{areas};
 use crate::check::too_small;
 use loc_leaf::Answer;
@@ -9,9 +9,8 @@ use loc_leaf::file::store_len;
 
 // 1; then lengths of slots, rows, checkpoints.
 pub fn create_areas(slots: &mut [u8], rows: &mut [u8], checkpoints: &mut [u8]) -> Answer
-    ensures { λ r. ⌜ (r ≡ create (areas (now (slots .entry)) (now (rows .entry)) (now (checkpoints .entry))) .answer)
-        × (areas (now (slots .exit)) (now (rows .exit)) (now (checkpoints .exit))
-        ≡ create (areas (now (slots .entry)) (now (rows .entry)) (now (checkpoints .entry))) .areas) ⌝ }
+    ensures { λ r. ⌜ Stored (create (areas (now (slots .entry)) (now (rows .entry)) (now (checkpoints .entry))))
+        r (areas (now (slots .exit)) (now (rows .exit)) (now (checkpoints .exit))) ⌝ }
 {
     if too_small(slots, rows, checkpoints) {
         return Answer {

@@ -1,8 +1,8 @@
 // Opening: the checkpoint rule, then the cut rule, with the stores of its first places.
 // Of an inner crate, as the public calls of both kinds use it.
-ghost use mathlib.Core.Path.{_≡_};
 ghost use Rattle.loc_calls.specs.Table.{opening};
 ghost use Rattle.loc_calls.specs.Calls.{call};
+ghost use Rattle.loc_calls.specs.Promises.{Stored};
 ghost use Rattle.loc_calls.specs.Areas.{areas};
 use crate::check::open_refusal;
 use crate::check::too_small;
@@ -20,9 +20,8 @@ pub fn open_run(
     checkpoints: &mut [u8],
     places: u64,
 ) -> Answer
-    ensures { λ r. ⌜ (r ≡ call kind places opening (areas (now (slots .entry)) (now (rows .entry)) (now (checkpoints .entry))) .answer)
-        × (areas (now (slots .exit)) (now (rows .exit)) (now (checkpoints .exit))
-        ≡ call kind places opening (areas (now (slots .entry)) (now (rows .entry)) (now (checkpoints .entry))) .areas) ⌝ }
+    ensures { λ r. ⌜ Stored (call kind places opening (areas (now (slots .entry)) (now (rows .entry)) (now (checkpoints .entry))))
+        r (areas (now (slots .exit)) (now (rows .exit)) (now (checkpoints .exit))) ⌝ }
 {
     if too_small(slots, rows, checkpoints) {
         return Answer {

@@ -1,8 +1,8 @@
 // Truncation to the first records, with the stores of its first places.
 // Of an inner crate, as the public calls of both kinds use it.
-ghost use mathlib.Core.Path.{_≡_};
 ghost use Rattle.loc_calls.specs.Table.{truncate};
 ghost use Rattle.loc_calls.specs.Calls.{call};
+ghost use Rattle.loc_calls.specs.Promises.{Stored};
 ghost use Rattle.loc_calls.specs.Areas.{areas};
 use crate::check::call_refusal;
 use crate::plan::lengths;
@@ -20,9 +20,8 @@ pub fn truncate_run(
     count: u64,
     places: u64,
 ) -> Answer
-    ensures { λ r. ⌜ (r ≡ call kind places (truncate count) (areas (now (slots .entry)) (now (rows .entry)) (now (checkpoints .entry))) .answer)
-        × (areas (now (slots .exit)) (now (rows .exit)) (now (checkpoints .exit))
-        ≡ call kind places (truncate count) (areas (now (slots .entry)) (now (rows .entry)) (now (checkpoints .entry))) .areas) ⌝ }
+    ensures { λ r. ⌜ Stored (call kind places (truncate count) (areas (now (slots .entry)) (now (rows .entry)) (now (checkpoints .entry))))
+        r (areas (now (slots .exit)) (now (rows .exit)) (now (checkpoints .exit))) ⌝ }
 {
     let number = call_refusal(kind, slots, rows, checkpoints);
     if number != 0 {

@@ -1,0 +1,4 @@
+pub mod RunLaws
+pub mod WindowLaws
+pub mod WalkLaws
+pub mod ReadLaws

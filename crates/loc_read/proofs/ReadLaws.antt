@@ -1,0 +1,100 @@
+-- A reading in the form in which the code meets it: number, value and answer buffer at once.
+-- 1, 6; 15, 16; 17; then an answer for each wanted number.
+use Prim.Native.Nat.{ℕ, _+_, _-_, _*_, _^_, _≤_, _<_}
+use mathlib.Core.Path.{_≡_, refl, sym, ap, _∙_}
+use mathlib.Core.Bool.{not}
+use mathlib.Core.List.{List, _++_}
+use native.Mathlib.Omega.{arith}
+use lib.Dec.{ltb}
+use lib.ListN.{length, take, drop, replicate, length-replicate}
+use borrow.Author.Tests.{lt-ltb, le-ltb}
+use Rattle.loc_leaf.specs.declared.Kind.{Kind}
+use Rattle.loc_leaf.specs.declared.Kind.the-variants.{Paired, Single}
+use Rattle.loc_leaf.specs.Bytes.{Bytes}
+use Rattle.loc_leaf.specs.Answers.{refuse, _orElse_}
+use Rattle.loc_leaf.specs.Area.{fill}
+use Rattle.loc_leaf.specs.Kind.{rowWidth}
+use Rattle.loc_leaf.proofs.Refusals.{orElse-first}
+use Rattle.loc_calls.specs.Areas.{Areas, areas, count}
+use Rattle.loc_calls.specs.Table.{read, table, wordWidth}
+use Rattle.loc_calls.specs.Stores.{settled}
+use Rattle.loc_calls.specs.Reading.{anyMissing, found}
+use Rattle.loc_calls.specs.Calls.{tooSmall, unread, isOpening, refusal, call}
+use Rattle.loc_calls.specs.Promises.{Read}
+use Rattle.loc_calls.proofs.Outcomes.{read-refused, read-accepted, refusal-after}
+use Rattle.loc_answer.proofs.AnswerLaws.{answered-is}
+use Rattle.loc_store.proofs.SettledLaws.{accepted-sized, accepted-ascends}
+use Rattle.loc_read.specs.Walk.{Readable, Answered, Finished}
+use Rattle.loc_read.specs.Read.{Tested}
+
+module _ (k : Kind) (a : Areas) (ids out : List ℕ) where
+  -- 1 or 6
+  pub read-first : (n : ℕ) → n ≡ refuse (tooSmall a) 1 orElse refuse (not (settled k a)) 6 → (n ≡ 0 → ⊥)
+      → Read (call k 0 (read ids out) a) (record { number = n; value = 0 }) out
+  unfolding isOpening
+  read-first n e h = read-refused k a ids out n (refusal-after k (read ids out) a n refl e ∙ orElse-first n _ h) h
+
+  module _ (n : ℕ) (e : n ≡ refuse (tooSmall a) 1 orElse refuse (not (settled k a)) 6) (z : n ≡ 0) where
+    number-is : refusal k (read ids out) a
+        ≡ (refuse (ltb 1024 (length ids)) 15 orElse refuse (ltb (length out) (wordWidth k * length ids)) 16) orElse refuse (anyMissing k a ids) 17
+    unfolding isOpening table unread
+    number-is = refusal-after k (read ids out) a 0 refl (sym z ∙ e)
+
+    pub read-15 : 1024 < length ids → Read (call k 0 (read ids out) a) (record { number = 15; value = 0 }) out
+    read-15 h = read-refused k a ids out 15 (number-is ∙ rw (lt-ltb 1024 (length ids) h) refl) (λ q. omega arith)
+
+    module _ (w : ℕ) (ew : w ≡ wordWidth k) (few : length ids ≤ 1024) where
+      pub read-16 : length out < w * length ids → Read (call k 0 (read ids out) a) (record { number = 16; value = 0 }) out
+      read-16 h =
+          read-refused k a ids out 16
+          (number-is ∙ rw (le-ltb 1024 (length ids) few, ← ew, lt-ltb (length out) (w * length ids) h) refl)
+          (λ q. omega arith)
+
+      pub read-tested : w * length ids ≤ length out → Tested k a ids out
+      read-tested h = record { opened = sym z ∙ e; few = few; room = rw (← ew) h }
+
+  module _ (t : Tested k a ids out) where
+    tested-number : refusal k (read ids out) a ≡ refuse (anyMissing k a ids) 17
+    tested-number =
+        number-is 0 (t .opened) refl
+        ∙ rw (le-ltb 1024 (length ids) (t .few), le-ltb (length out) (wordWidth k * length ids) (t .room)) refl
+
+    module _ (n : ℕ) (stage : List ℕ) (f : Finished k a ids stage n) where
+      pub read-17 : (n ≡ 0 → ⊥) → Read (call k 0 (read ids out) a) (record { number = n; value = 0 }) out
+      read-17 h = read-refused k a ids out n (tested-number ∙ sym (f .refused)) h
+
+      pub read-done : (w m v : ℕ) (new : List ℕ) → n ≡ 0 → w ≡ wordWidth k → w * length ids ≤ length stage → m ≡ fill 2 (a .slots) → v ≡ found m ids
+          → new ≡ take (w * length ids) stage ++ drop (w * length ids) out → Read (call k 0 (read ids out) a) (record { number = 0; value = v }) new
+      unfolding Answered count
+      read-done w m v new z ew long em ev en =
+          read-accepted k a ids out v new (tested-number ∙ sym (f .refused) ∙ z) (rw (← em) ev)
+          (answered-is k a ids stage out new (rw (← ew) long) (f .answered z) (rw (← ew) en))
+
+-- what the walk asks
+pub readable : (k : Kind) (s r c : Bytes) (ids out : List ℕ) (n nr : ℕ) → Tested k (areas s r c) ids out → n ≡ fill 2 s → 2 * n ≤ length s - 16 → length s < 2 ^ 64
+    → nr ≡ fill (rowWidth k) r → Readable k (areas s r c) n nr
+unfolding count
+readable k s r c ids out n nr t en h l er =
+    record {
+      counted = en;
+      room = omega (arith, h, hold);
+      low = omega (arith, h, hold);
+      rise = record { ascend = accepted-ascends k s r c 0 (t .opened) refl; counted = er };
+    }
+  where
+    hold : 16 ≤ length s
+    hold = accepted-sized k s r c 0 (t .opened) refl .slotsHold
+
+-- words that fit, by the width that the code has
+pub words-fit : (w v l x y : ℕ) → w ≡ v → v * l ≤ x → y ≡ x → w * l ≤ y
+words-fit w v l x y e h q = rw (e, q) h
+
+-- arrays for n numbers
+pub arrays-hold : (k : Kind) (ids : List ℕ) (n m : ℕ) → length ids ≤ n → 6 * n ≤ m
+    → (length ids ≤ length (replicate {A = ℕ} n 0)) × (length ids ≤ length (replicate {A = ℕ} n 0)) × (wordWidth k * length ids ≤ length (replicate {A = ℕ} m 0))
+    × (replicate {A = ℕ} m 0 ≡ replicate {A = ℕ} (length (replicate {A = ℕ} m 0)) 0)
+arrays-hold k ids n m h g = rw (length-replicate {A = ℕ} n 0, length-replicate {A = ℕ} m 0) (h, h, wide k, refl)
+  where
+    wide : (j : Kind) → wordWidth j * length ids ≤ m
+    wide Paired = omega arith
+    wide Single = omega arith

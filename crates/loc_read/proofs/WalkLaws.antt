@@ -1,0 +1,167 @@
+-- The walk over windows: what a window's turn asks, and that the keys up to its end are answered after it.
+-- Nothing here rests on the order of the keys.
+use Prim.Native.Nat.{ℕ, zero, suc, _+_, _*_, _^_, _≤_, _<_}
+use mathlib.Core.Path.{_≡_, refl, sym, ap, _∙_, subst, subst⁻¹}
+use mathlib.Core.Logic.{_⊎_, inl, inr, ⊎-elim}
+use mathlib.Core.Bool.{true, false, _||_, or-true}
+use mathlib.Core.List.{List, [], _∷_}
+use native.Mathlib.Nat.{not-suc-le-zero}
+use native.Mathlib.Decide.{decLe}
+use native.Mathlib.Omega.{arith}
+use lib.ListN.{length, getD, replicate}
+use Rattle.loc_leaf.specs.declared.Kind.{Kind}
+use Rattle.loc_leaf.specs.declared.Kind.the-variants.{Paired}
+use Rattle.loc_leaf.specs.Bytes.{Bytes}
+use Rattle.loc_leaf.specs.Kind.{windowOf}
+use Rattle.loc_leaf.proofs.Booleans.{is?}
+use Rattle.loc_calls.specs.Areas.{Areas, count}
+use Rattle.loc_calls.specs.Table.{wordWidth}
+use Rattle.loc_calls.specs.Reading.{before, windowEnd, within, rowMissing, anyMissing}
+use Rattle.loc_order.specs.Order.{All, sorted}
+use Rattle.loc_order.specs.Keys.{keysFrom, placeOf, wantedBy, KeyOf}
+use Rattle.loc_order.proofs.OrderLaws.{all-of}
+use Rattle.loc_order.proofs.KeyLaws.{keys-right, keys-meet}
+use Rattle.loc_answer.specs.Words.{RunSafe, Agrees, RunPut}
+use Rattle.loc_answer.proofs.AnswerLaws.{zeros-has}
+use Rattle.loc_window.specs.declared.Sums.{Sums}
+use Rattle.loc_window.specs.Window.{placed, complete, Stored, Copied}
+use Rattle.loc_read.specs.Runs.{IsRun}
+use Rattle.loc_read.specs.Walk.{Readable, Summing, rightAt, HasRight, Passing, Answered, Finished}
+use Rattle.loc_read.proofs.RunLaws.{looked-few, looked-counted, key-there, key-some, key-counted}
+use Rattle.loc_read.proofs.WindowLaws.{summed-known, summed-stored, window-lacks, window-complete, window-summed, window-words}
+
+pub ordered-keys : (n : ℕ) (ids keys : List ℕ) → length ids ≤ 1024 → keys ≡ sorted (keysFrom n 0 ids) → All (KeyOf n ids) keys
+ordered-keys n ids keys h e = subst⁻¹ (All (KeyOf n ids)) e (keys-right n ids h)
+
+-- one entry of the list whose slots lack a row
+pub any-at : (k : Kind) (a : Areas) (ids : List ℕ) (p : ℕ) → p < length ids → rowMissing k a (getD ids p 0) ≡ true → anyMissing k a ids ≡ true
+unfolding anyMissing
+any-at k a [] p h e = absurd (not-suc-le-zero h)
+any-at k a (x ∷ ids) zero h e = rw e refl
+any-at k a (x ∷ ids) (suc p) h e = rw (any-at k a ids p (omega arith) e) (or-true (rowMissing k a x))
+
+before-or-from : (t i : ℕ) → (t < i) ⊎ (i ≤ t)
+before-or-from t i = go (decLe i t)
+  where
+    go : Dec (i ≤ t) → (t < i) ⊎ (i ≤ t)
+    go (yes h) = inr h
+    go (no h) = inl (omega arith)
+
+pub passing-none : (k : Kind) (a : Areas) (ids keys out : List ℕ) → Passing k a ids keys 0 out out
+passing-none k a ids keys out =
+    record { inside = omega arith; long = refl; answers = λ t h. absurd (not-suc-le-zero h); complete = λ t h. absurd (not-suc-le-zero h); kept = λ p h. h }
+
+module _ (k : Kind) (a : Areas) (n nr : ℕ) (ids keys : List ℕ) (rd : Readable k a n nr) (ks : All (KeyOf n ids) keys)
+    (i end m stamp : ℕ) (mark : List ℕ) (run : IsRun k n ids keys i end m stamp mark) where
+  pub run-few : m ≤ 1024
+  run-few = omega (arith, run .isMost, looked-few k n (wantedBy ids keys (run .most)))
+
+  module _ (f : ℕ) (first : f ≡ before (wantedBy ids keys i)) where
+    -- the window's records that are looked at are published
+    pub run-published : f + m ≤ n
+    run-published = omega (arith, looked-counted k n (wantedBy ids keys (run .most)) some (key-counted n ids keys ks (run .most) there _ refl), run .isMost, own)
+      where
+        there : run .most < length keys
+        there = omega (arith, run .mostEnd, run .inside)
+
+        some : 0 < wantedBy ids keys (run .most)
+        some = key-some n ids keys ks (run .most) there _ refl
+
+        own : before (wantedBy ids keys (run .most)) ≡ f
+        own = ap (λ (w : ℕ). 1024 * w) (run .window (run .most) (run .mostFrom) (run .mostEnd)) ∙ sym first
+
+    pub run-room : 16 + 2 * f + 2 * m ≤ length (a .slots)
+    run-room = omega (arith, run-published, rd .room)
+
+    pub run-low : f + 1024 < 2 ^ 64
+    run-low = omega (arith, run-published, rd .low)
+
+    module _ (bytes old : Bytes) (copied : Copied (a .slots) (16 + 2 * f) (2 * m) old bytes) where
+      -- the slot loop ends the walk
+      pub run-lacks : complete k (placed f bytes (a .rows)) f m ≡ false → anyMissing k a ids ≡ true
+      run-lacks e =
+          any-at k a ids (placeOf (getD keys (run .most) 0)) (key-there n ids keys ks (run .most) (omega (arith, run .mostEnd, run .inside)))
+          (window-lacks k a n nr ids keys i end f m stamp mark bytes old [] [] rd ks run first copied e)
+
+      module _ (block : ℕ) (s : Sums) (body span : List ℕ) (w : Summing k f m bytes (a .rows) nr mark stamp block s body span) (h : m ≤ 8 * block) where
+        abbrev known : complete k (placed f bytes (a .rows)) f m ≡ true
+        known = summed-known k f m bytes (a .rows) nr mark stamp block s body span w h
+
+        abbrev stored : Stored k f bytes (a .rows) mark stamp m body span
+        stored = summed-stored k f m bytes (a .rows) nr mark stamp block s body span w h
+
+        pub run-safe : (out : List ℕ) → wordWidth k * length ids ≤ length out → RunSafe k ids keys i end body span out
+        run-safe out room =
+            record {
+              order = omega (arith, run .more);
+              inside = run .inside;
+              room = room;
+              place = λ t l g. key-there n ids keys ks t (omega (arith, run .inside));
+              summed = λ t l g. window-summed k a n nr ids keys i end f m stamp mark bytes old body span rd ks run first copied known stored (w .bodyLong) (w .spanLong) t l g;
+            }
+
+        module _ (b e : ℕ) (eb : b ≡ windowEnd k a 0 (windowOf (wantedBy ids keys i))) (ee : k ≡ Paired → e ≡ windowEnd k a 8 (windowOf (wantedBy ids keys i))) where
+          agrees : Agrees k ids keys i end b e body span (rightAt k a ids)
+          unfolding Agrees
+          agrees t l g = window-words k a n nr ids keys i end f m stamp mark bytes old body span rd ks run first copied known stored (w .bodyLong) (w .spanLong) t l g b e eb ee
+
+          pub passing-next : (out₀ out out′ : List ℕ) → Passing k a ids keys i out₀ out → RunPut k ids keys i end b e body span out out′ → Passing k a ids keys end out₀ out′
+          passing-next out₀ out out′ p r =
+              record {
+                inside = run .inside;
+                long = r .long ∙ p .long;
+                answers = answers;
+                complete = complete;
+                kept = λ q z. r .kept (rightAt k a ids) agrees q (p .kept q z);
+              }
+            where
+              answers : (t : ℕ) → t < end → HasRight k a ids out′ (placeOf (getD keys t 0))
+              answers t g =
+                  ⊎-elim
+                  (λ (l : t < i). r .kept (rightAt k a ids) agrees (placeOf (getD keys t 0)) (p .answers t l))
+                  (λ (l : i ≤ t). r .put (rightAt k a ids) agrees t l g)
+                  (before-or-from t i)
+
+              complete : (t : ℕ) → t < end → rowMissing k a (wantedBy ids keys t) ≡ false
+              complete t g =
+                  ⊎-elim
+                  (λ (l : t < i). p .complete t l)
+                  (λ (l : i ≤ t). window-complete k a n nr ids keys i end f m stamp mark bytes old body span rd ks run first copied known stored (w .bodyLong) (w .spanLong) t l g)
+                  (before-or-from t i)
+
+-- ---- the end of the walk
+
+module _ (k : Kind) (a : Areas) (ids : List ℕ) where
+  pub finished-17 : (out : List ℕ) → anyMissing k a ids ≡ true → Finished k a ids out 17
+  finished-17 out e = record { refused = rw e refl; answered = λ z. absurd (omega arith) }
+
+  none-missing : (xs : List ℕ) → ((p : ℕ) → p < length xs → rowMissing k a (getD xs p 0) ≡ false) → anyMissing k a xs ≡ false
+  unfolding anyMissing
+  none-missing [] h = refl
+  none-missing (x ∷ xs) h = rw (h 0 (omega arith), none-missing xs (λ p l. h (suc p) (omega arith))) refl
+
+  module _ (n : ℕ) (keys : List ℕ) (few : length ids ≤ 1024) (isCount : n ≡ count a) (ordered : keys ≡ sorted (keysFrom n 0 ids))
+      (i : ℕ) (old out : List ℕ) (w : Passing k a ids keys i old out) (ended : length keys ≤ i) where
+    -- what holds of each key's place holds of each place whose number lies between 1 and the count
+    meet : (P : ℕ → Type 0) → ((t : ℕ) → t < length keys → P (placeOf (getD keys t 0))) → (p : ℕ) → p < length ids → within n (getD ids p 0) ≡ true → P p
+    meet P f p h e = keys-meet P n ids few (subst (All (λ x. P (placeOf x))) ordered (all-of (λ x. P (placeOf x)) keys f)) p h e
+
+    all-complete : (p : ℕ) → p < length ids → rowMissing k a (getD ids p 0) ≡ false
+    unfolding rowMissing
+    all-complete p h = go (is? (within n (getD ids p 0)))
+      where
+        go : (within n (getD ids p 0) ≡ true) ⊎ (within n (getD ids p 0) ≡ false) → rowMissing k a (getD ids p 0) ≡ false
+        go (inl e) = meet (λ q. rowMissing k a (getD ids q 0) ≡ false) (λ t l. w .complete t (omega arith)) p h e
+        go (inr e) = rw (← isCount, e) refl
+
+    all-answered : old ≡ replicate (length old) 0 → Answered k a ids out
+    unfolding Answered
+    all-answered z p h = go (is? (within n (getD ids p 0)))
+      where
+        go : (within n (getD ids p 0) ≡ true) ⊎ (within n (getD ids p 0) ≡ false) → HasRight k a ids out p
+        go (inl e) = meet (HasRight k a ids out) (λ t l. w .answers t (omega arith)) p h e
+        go (inr e) =
+            w .kept p (subst⁻¹ (λ (x : List ℕ). HasRight k a ids x p) z (zeros-has k a (length old) (getD ids p 0) p (rw (← isCount) e)))
+
+    pub finished-0 : (number : ℕ) → number ≡ 0 → old ≡ replicate (length old) 0 → Finished k a ids out number
+    finished-0 number e z = record { refused = rw (e, none-missing ids all-complete) refl; answered = λ q. all-answered z }

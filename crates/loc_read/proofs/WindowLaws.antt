@@ -1,0 +1,264 @@
+-- One window of the walk: its slot loop, and what its sums say of the wanted numbers that lie in it.
+-- f is the record before the window, m how many of its records are looked at.
+use Prim.Native.Nat.{ℕ, zero, suc, _+_, _-_, _*_, _/_, _^_, _≤_, _<_, min}
+use mathlib.Core.Path.{_≡_, refl, sym, ap, _∙_, subst}
+use mathlib.Core.Logic.{_⊎_, inl, inr}
+use mathlib.Core.Bool.{Bool, true, false, cond, not, _&&_, false≢true}
+use mathlib.Core.List.{List}
+use native.Mathlib.Nat.{le-refl, mul-comm, mul-le-mul-left}
+use native.Mathlib.Numerals.{add-one}
+use native.Mathlib.Omega.{arith}
+use lib.ListN.{length, getD, take, drop}
+use lib.Seq.{drop-drop}
+use Rattle.loc_leaf.specs.declared.Kind.{Kind}
+use Rattle.loc_leaf.specs.declared.Kind.the-variants.{Paired, Single}
+use Rattle.loc_leaf.specs.declared.Value.{Value}
+use Rattle.loc_leaf.specs.Bytes.{Bytes, number, numberAt}
+use Rattle.loc_leaf.specs.Kind.{checkpointWidth, windowOf, withinWindow}
+use Rattle.loc_leaf.proofs.Booleans.{is?}
+use Rattle.loc_leaf.proofs.RowLaws.{field-in}
+use Rattle.loc_calls.specs.Areas.{Areas, areas}
+use Rattle.loc_calls.specs.Table.{wordWidth}
+use Rattle.loc_calls.specs.Reading.{sumAfter, allAfter, lookupAt, has, valueAt, stridesAfter, spansAfter, before, checkpointAt, windowEnd, lookedAt, within, rowMissing, words, wordsFor}
+use Rattle.loc_order.specs.Order.{All}
+use Rattle.loc_order.specs.Keys.{wantedBy, KeyOf}
+use Rattle.loc_order.proofs.OrderLaws.{all-at}
+use Rattle.loc_answer.specs.Words.{Summed, sumWords, RunSafe, Agrees}
+use Rattle.loc_window.specs.declared.Sums.{Sums}
+use Rattle.loc_window.specs.declared.Step.{Step}
+use Rattle.loc_window.specs.declared.Step.the-variants.{Next, Lack}
+use Rattle.loc_window.specs.Window.{placed, complete, Rising, After, sumsOf, Right, Ready, Stored, SlotStepped, Copied}
+use Rattle.loc_window.proofs.SumLaws.{all-more}
+use Rattle.loc_window.proofs.StepLaws.{ready-on, slot-next, slot-lack}
+use Rattle.loc_window.proofs.WindowLaws.{after-none, stored-none, complete-same, right-strides, right-spans}
+use Rattle.loc_read.specs.Runs.{IsRun}
+use Rattle.loc_read.specs.Walk.{Readable, Summing, rightAt}
+use Rattle.loc_read.proofs.RunLaws.{looked-own, looked-few, looked-counted, key-there, key-some, key-counted}
+
+-- ---- the slot loop
+
+module _ (k : Kind) (f m : ℕ) (bytes rows : Bytes) (nr : ℕ) (mark : List ℕ) (stamp : ℕ) where
+  pub summing-none : (body span : List ℕ) → m ≤ 1024 → f + 1024 < 2 ^ 64 → Rising k rows nr → length bytes ≡ 2048 → length body ≡ 1025 → length span ≡ 1025
+      → Summing k f m bytes rows nr mark stamp 0 (sumsOf 0 0 (nr + 1)) body span
+  summing-none body span few low rise eb e₁ e₂ =
+      record {
+        bound = omega arith;
+        bodyLong = e₁;
+        spanLong = e₂;
+        ready = subst (λ (i : ℕ). Ready k f bytes rows nr i m (sumsOf 0 0 (nr + 1)) body span) none ready;
+        stored = subst (λ (i : ℕ). Stored k f bytes rows mark stamp i body span) none (stored-none k f bytes rows mark stamp body span);
+      }
+    where
+      none : 0 ≡ min (8 * 0) m
+      none = omega arith
+
+      ready : Ready k f bytes rows nr 0 m (sumsOf 0 0 (nr + 1)) body span
+      ready =
+          record {
+            order = omega arith;
+            few = few;
+            copied = omega arith;
+            bodyRoom = omega arith;
+            spanRoom = omega arith;
+            numbers = low;
+            rise = rise;
+            after = after-none k f bytes rows nr rise;
+          }
+
+  module _ (block : ℕ) (s : Sums) (body span : List ℕ) (w : Summing k f m bytes rows nr mark stamp block s body span) where
+    pub summing-asks : length mark ≡ 128 → 8 * block < m
+        → ((8 * block < m) × (block < length mark) × Ready k f bytes rows nr (8 * block) m s body span) × Stored k f bytes rows mark stamp (8 * block) body span
+    summing-asks long h = (
+      (h, omega (arith, w .ready .few), subst (λ (i : ℕ). Ready k f bytes rows nr i m s body span) whole (w .ready)),
+      subst (λ (i : ℕ). Stored k f bytes rows mark stamp i body span) whole (w .stored),
+    )
+      where
+        whole : min (8 * block) m ≡ 8 * block
+        whole = omega arith
+
+    pub summing-next : (r : Step) (t : Sums) (body′ span′ : List ℕ) → 8 * block < m → SlotStepped k f bytes rows mark stamp block m body′ span′ r → r ≡ Next t
+        → length body′ ≡ length body → length span′ ≡ length span → Summing k f m bytes rows nr mark stamp (block + 1) t body′ span′
+    summing-next r t body′ span′ h v e e₁ e₂ =
+        record {
+          bound = omega arith;
+          bodyLong = e₁ ∙ w .bodyLong;
+          spanLong = e₂ ∙ w .spanLong;
+          ready =
+              record {
+                order = omega arith;
+                few = w .ready .few;
+                copied = w .ready .copied;
+                bodyRoom = omega (arith, w .ready .bodyRoom);
+                spanRoom = omega (arith, w .ready .spanRoom);
+                numbers = w .ready .numbers;
+                rise = w .ready .rise;
+                after = more .0;
+              };
+          stored = more .1;
+        }
+      where
+        more : After k f bytes rows (min (8 * (block + 1)) m) t × Stored k f bytes rows mark stamp (min (8 * (block + 1)) m) body′ span′
+        more = slot-next k f bytes rows mark stamp block m body′ span′ r v t e
+
+    -- the loop has ended
+    module _ (h : m ≤ 8 * block) where
+      all : min (8 * block) m ≡ m
+      all = omega arith
+
+      pub summed-known : complete k (placed f bytes rows) f m ≡ true
+      summed-known = subst (λ (i : ℕ). complete k (placed f bytes rows) f i ≡ true) all (w .ready .after .known)
+
+      pub summed-stored : Stored k f bytes rows mark stamp m body span
+      summed-stored = subst (λ (i : ℕ). Stored k f bytes rows mark stamp i body span) all (w .stored)
+
+-- ---- where a window's bodies and spans begin
+
+pub end-zero : (k : Kind) (a : Areas) (at w : ℕ) → w ≡ 0 → 16 ≡ windowEnd k a at w
+unfolding windowEnd
+end-zero k a at w e = rw e refl
+
+pub width-low : (width x : ℕ) → width ≤ 16 → width * x ≤ 16 * x
+width-low width x h = rw (mul-comm width x, mul-comm 16 x) (mul-le-mul-left x h)
+
+pub end-some : (k : Kind) (s t c : Bytes) (at w width r : ℕ) → (w ≡ 0 → ⊥) → width ≡ checkpointWidth k → r ≡ numberAt 8 (16 + width * (w - 1) + at) c
+    → at + 8 ≤ checkpointWidth k → r ≡ windowEnd k (areas s t c) at w
+unfolding windowEnd checkpointAt numberAt
+end-some k s t c at zero width r h e q l = absurd (h refl)
+end-some k s t c at (suc w) width r h e q l = q ∙ rw e (sym (field-in 8 at (checkpointWidth k) _ l ∙ past))
+  where
+    past : numberAt 8 at (drop (16 + checkpointWidth k * (suc w - 1)) c) ≡ numberAt 8 (16 + checkpointWidth k * (suc w - 1) + at) c
+    past = ap (λ (x : Bytes). number (take 8 x)) (drop-drop at (16 + checkpointWidth k * (suc w - 1)) c)
+
+module _ (k : Kind) (a : Areas) (w w′ r : ℕ) where
+  pub end-of-bodies : (8 ≤ checkpointWidth k → r ≡ windowEnd k a 0 w) → w ≡ w′ → r ≡ windowEnd k a 0 w′
+  end-of-bodies f e = f (wide k) ∙ ap (windowEnd k a 0) e
+    where
+      wide : (j : Kind) → 8 ≤ checkpointWidth j
+      wide Paired = omega arith
+      wide Single = omega arith
+
+  pub end-of-spans : (16 ≤ checkpointWidth k → r ≡ windowEnd k a 8 w) → w ≡ w′ → k ≡ Paired → r ≡ windowEnd k a 8 w′
+  end-of-spans f e p = f (rw p (omega arith)) ∙ ap (windowEnd k a 8) e
+
+-- ---- complete
+
+-- what holds of m records holds of fewer
+complete-less : (k : Kind) (a : Areas) (f n m : ℕ) → n ≤ m → complete k a f m ≡ true → complete k a f n ≡ true
+complete-less k a f n m l e = go (is? (complete k a f n))
+  where
+    go : (complete k a f n ≡ true) ⊎ (complete k a f n ≡ false) → complete k a f n ≡ true
+    go (inl t) = t
+    go (inr t) = absurd (false≢true (sym (all-more (λ i. has (lookupAt k a i)) f n m t l) ∙ e))
+
+-- ---- words of the window's records
+
+words-are : (k : Kind) (b b′ s s′ : ℕ) (v v′ : Value) → b ≡ b′ → (k ≡ Paired → s ≡ s′) → v ≡ v′ → words k b s v ≡ words k b′ s′ v′
+unfolding words
+words-are Paired b b′ s s′ v v′ eb es ev = rw (eb, es refl, ev) refl
+words-are Single b b′ s s′ v v′ eb es ev = rw (eb, ev) refl
+
+value-is : (v : Value) (x y : ℕ) → x ≡ v .strides → y ≡ v .spans → record { strides = x; spans = y } ≡ v
+value-is v x y e q = rw (e, q) refl
+
+-- one record more
+sum-more : (g : ℕ → ℕ) (f j : ℕ) → sumAfter g f (j + 1) ≡ sumAfter g f j + g (f + suc j)
+unfolding sumAfter
+sum-more g f j = rw (add-one j) refl
+
+module _ (k : Kind) (a : Areas) (f j : ℕ) where
+  strides-more : stridesAfter k a f (j + 1) ≡ stridesAfter k a f j + (valueAt k a (f + suc j)) .strides
+  unfolding stridesAfter
+  strides-more = sum-more (λ i. (valueAt k a i) .strides) f j
+
+  spans-more : spansAfter k a f (j + 1) ≡ spansAfter k a f j + (valueAt k a (f + suc j)) .spans
+  unfolding spansAfter
+  spans-more = sum-more (λ i. (valueAt k a i) .spans) f j
+
+-- ---- a window whose slot loop has ended
+
+module _ (k : Kind) (a : Areas) (n nr : ℕ) (ids keys : List ℕ) (i end f m stamp : ℕ) (mark : List ℕ) (bytes old : Bytes) (body span : List ℕ)
+    (rd : Readable k a n nr) (ks : All (KeyOf n ids) keys) (run : IsRun k n ids keys i end m stamp mark) (first : f ≡ before (wantedBy ids keys i))
+    (copied : Copied (a .slots) (16 + 2 * f) (2 * m) old bytes) where
+  here : (t : ℕ) → t < end → t < length keys
+  here t h = omega (arith, run .inside)
+
+  own-window : (t : ℕ) → i ≤ t → t < end → before (wantedBy ids keys t) ≡ f
+  own-window t h g = ap (λ (w : ℕ). 1024 * w) (run .window t h g) ∙ sym first
+
+  -- a slot that is looked at lacks its row
+  pub window-lacks : complete k (placed f bytes (a .rows)) f m ≡ false → rowMissing k a (wantedBy ids keys (run .most)) ≡ true
+  unfolding rowMissing
+  window-lacks e =
+      rw (← rd .counted, all-at (KeyOf n ids) keys ks (run .most) (here (run .most) (run .mostEnd)) .inside, run .isMost, own-window (run .most) (run .mostFrom) (run .mostEnd), sym (complete-same k a f m bytes old copied m (le-refl m)) ∙ e) refl
+
+  module _ (known : complete k (placed f bytes (a .rows)) f m ≡ true) (stored : Stored k f bytes (a .rows) mark stamp m body span)
+      (e₁ : length body ≡ 1025) (e₂ : length span ≡ 1025) (t : ℕ) (h : i ≤ t) (g : t < end) where
+    abbrev id : ℕ
+    id = wantedBy ids keys t
+
+    abbrev j : ℕ
+    j = withinWindow id
+
+    some : 0 < id
+    some = key-some n ids keys ks t (here t g) id refl
+
+    inside : j < m
+    inside = omega (arith, looked-own k n id some (key-counted n ids keys ks t (here t g) id refl), run .looked t h g)
+
+    -- no row is missing
+    pub window-complete : rowMissing k a (wantedBy ids keys t) ≡ false
+    unfolding rowMissing
+    window-complete =
+        rw (← rd .counted, own-window t h g, complete-less k a f (lookedAt k n id) m (run .looked t h g) (sym (complete-same k a f m bytes old copied m (le-refl m)) ∙ known)) (off (within n id))
+      where
+        off : (b : Bool) → (b && not true) ≡ false
+        off true = refl
+        off false = refl
+
+    low : Right k f bytes (a .rows) j body span
+    low = stored .here j inside (run .marked t h g)
+
+    high : Right k f bytes (a .rows) (j + 1) body span
+    high = stored .next j inside (run .marked t h g)
+
+    body-here : getD body j 0 ≡ stridesAfter k a f j
+    body-here = right-strides k a f m bytes old copied j body span (omega (arith, inside)) low
+
+    body-next : getD body (j + 1) 0 ≡ stridesAfter k a f (j + 1)
+    body-next = right-strides k a f m bytes old copied (j + 1) body span (omega (arith, inside)) high
+
+    span-here : getD span j 0 ≡ spansAfter k a f j
+    span-here = right-spans k a f m bytes old copied j body span (omega (arith, inside)) low
+
+    span-next : getD span (j + 1) 0 ≡ spansAfter k a f (j + 1)
+    span-next = right-spans k a f m bytes old copied (j + 1) body span (omega (arith, inside)) high
+
+    few : j < 1024
+    few = omega arith
+
+    pub window-summed : Summed body span j
+    window-summed =
+        record {
+          inBody = omega (arith, few, e₁);
+          inSpan = omega (arith, few, e₂);
+          bodyRises = omega (arith, body-here, body-next, strides-more k a f j);
+          spanRises = omega (arith, span-here, span-next, spans-more k a f j);
+          bodyLow = omega (arith, few, high .bodyLow);
+          spanLow = omega (arith, few, high .spanLow);
+        }
+
+    itself : f + suc j ≡ id
+    itself = omega (arith, own-window t h g, some)
+
+    value : record { strides = getD body (j + 1) 0 - getD body j 0; spans = getD span (j + 1) 0 - getD span j 0 } ≡ valueAt k a id
+    value = value-is (valueAt k a id) (getD body (j + 1) 0 - getD body j 0) (getD span (j + 1) 0 - getD span j 0)
+        (omega (arith, body-here, body-next, strides-more k a f j, ap (λ (x : ℕ). (valueAt k a x) .strides) itself))
+        (omega (arith, span-here, span-next, spans-more k a f j, ap (λ (x : ℕ). (valueAt k a x) .spans) itself))
+
+    pub window-words : (b s : ℕ) → b ≡ windowEnd k a 0 (windowOf (wantedBy ids keys i)) → (k ≡ Paired → s ≡ windowEnd k a 8 (windowOf (wantedBy ids keys i)))
+        → wordsFor k a id ≡ sumWords k b s body span j
+    unfolding wordsFor sumWords
+    window-words b s eb es =
+        rw (← rd .counted, all-at (KeyOf n ids) keys ks t (here t g) .inside)
+        (words-are k _ _ _ _ _ _ (rw (run .window t h g, ← first, eb, body-here) refl)
+        (λ p. rw (run .window t h g, ← first, es p, span-here) refl) (sym value))

@@ -1,0 +1,153 @@
+// Reading: its refusals, the plan, the walk into a stage, and the answers.
+// A stage keeps the caller's buffer as it was until 17 is ruled out.
+ghost use mathlib.Core.Path.{_≡_};
+ghost use Prim.Native.Nat.{_*_, _≤_};
+ghost use lib.ListN.{length, replicate};
+ghost use Rattle.loc_calls.specs.Areas.{areas};
+ghost use Rattle.loc_calls.specs.Table.{wordWidth, read};
+ghost use Rattle.loc_calls.specs.Calls.{call};
+ghost use Rattle.loc_calls.specs.Promises.{Read};
+ghost use Rattle.loc_read.specs.Read.{Tested};
+use crate::walk::finish_range_batch;
+use loc_answer::put::copy_words;
+use loc_answer::words::word_width;
+use loc_leaf::Answer;
+use loc_leaf::Kind;
+use loc_leaf::delta_loc::row_width;
+use loc_order::keys::plan_range_batch;
+use loc_store::check::call_refusal;
+use loc_store::plan::piece_count;
+
+// The reading in arrays that are long enough.
+fn read_with(
+    kind: Kind,
+    slots: &[u8],
+    rows: &[u8],
+    checkpoints: &[u8],
+    wanted: &[u64],
+    keys: &mut [u64],
+    spare: &mut [u64],
+    stage: &mut [u64],
+    answers: &mut [u64],
+) -> Answer
+    requires { ⌜ Tested kind (areas (now slots) (now rows) (now checkpoints)) (now wanted) (now answers) ⌝ }
+    requires { ⌜ (length (now wanted) ≤ length (now keys)) × (length (now wanted) ≤ length (now spare)) × (wordWidth kind * length (now wanted) ≤ length (now stage)) × (now stage ≡ replicate (length (now stage)) 0) ⌝ }
+    ensures { λ r. ⌜ Read (call kind 0 (read (now (wanted .entry)) (now (answers .entry))) (areas (now (slots .entry)) (now (rows .entry)) (now (checkpoints .entry))))
+        r (now (answers .exit)) ⌝ }
+{
+    let count = piece_count(slots, 2) as u64;
+    let row_count = piece_count(rows, row_width(kind));
+    let found = plan_range_batch(wanted, count, keys, spare);
+    let number = finish_range_batch(
+        kind,
+        slots,
+        rows,
+        checkpoints,
+        count,
+        row_count,
+        wanted,
+        &keys[..found],
+        stage,
+    );
+    if number != 0 {
+        return Answer { number, value: 0 };
+    }
+    copy_words(stage, word_width(kind) * wanted.len(), answers);
+    Answer {
+        number: 0,
+        value: found as u64,
+    }
+}
+
+// Up to 32 numbers: small arrays, since clearing large ones would take longer than the reading.
+fn read_few(
+    kind: Kind,
+    slots: &[u8],
+    rows: &[u8],
+    checkpoints: &[u8],
+    wanted: &[u64],
+    answers: &mut [u64],
+) -> Answer
+    requires { ⌜ Tested kind (areas (now slots) (now rows) (now checkpoints)) (now wanted) (now answers) × (length (now wanted) ≤ 32) ⌝ }
+    ensures { λ r. ⌜ Read (call kind 0 (read (now (wanted .entry)) (now (answers .entry))) (areas (now (slots .entry)) (now (rows .entry)) (now (checkpoints .entry))))
+        r (now (answers .exit)) ⌝ }
+{
+    let mut keys = [0u64; 32];
+    let mut spare = [0u64; 32];
+    let mut stage = [0u64; 192];
+    read_with(
+        kind,
+        slots,
+        rows,
+        checkpoints,
+        wanted,
+        &mut keys,
+        &mut spare,
+        &mut stage,
+        answers,
+    )
+}
+
+// Up to 1,024 numbers.
+fn read_many(
+    kind: Kind,
+    slots: &[u8],
+    rows: &[u8],
+    checkpoints: &[u8],
+    wanted: &[u64],
+    answers: &mut [u64],
+) -> Answer
+    requires { ⌜ Tested kind (areas (now slots) (now rows) (now checkpoints)) (now wanted) (now answers) ⌝ }
+    ensures { λ r. ⌜ Read (call kind 0 (read (now (wanted .entry)) (now (answers .entry))) (areas (now (slots .entry)) (now (rows .entry)) (now (checkpoints .entry))))
+        r (now (answers .exit)) ⌝ }
+{
+    let mut keys = [0u64; 1024];
+    let mut spare = [0u64; 1024];
+    let mut stage = [0u64; 6144];
+    read_with(
+        kind,
+        slots,
+        rows,
+        checkpoints,
+        wanted,
+        &mut keys,
+        &mut spare,
+        &mut stage,
+        answers,
+    )
+}
+
+// 1, 6; 15, 16, 17; then the answers. The value is how many of the wanted numbers are found.
+pub fn range_batch(
+    kind: Kind,
+    slots: &[u8],
+    rows: &[u8],
+    checkpoints: &[u8],
+    wanted: &[u64],
+    answers: &mut [u64],
+) -> Answer
+    ensures { λ r. ⌜ Read (call kind 0 (read (now (wanted .entry)) (now (answers .entry))) (areas (now (slots .entry)) (now (rows .entry)) (now (checkpoints .entry))))
+        r (now (answers .exit)) ⌝ }
+{
+    let number = call_refusal(kind, slots, rows, checkpoints);
+    if number != 0 {
+        return Answer { number, value: 0 };
+    }
+    let n = wanted.len();
+    if 1024 < n {
+        return Answer {
+            number: 15,
+            value: 0,
+        };
+    }
+    if answers.len() < word_width(kind) * n {
+        return Answer {
+            number: 16,
+            value: 0,
+        };
+    }
+    if n <= 32 {
+        return read_few(kind, slots, rows, checkpoints, wanted, answers);
+    }
+    read_many(kind, slots, rows, checkpoints, wanted, answers)
+}

@@ -1,0 +1,126 @@
+// The walk over the windows of the wanted numbers: their answers, or 17.
+// Keys in any order would do; no answer rests on it.
+ghost use mathlib.Core.Path.{_≡_};
+ghost use mathlib.Core.List.{map, flatten};
+ghost use Prim.Native.Nat.{_+_, _*_, _^_, _<_, _≤_};
+ghost use lib.ListN.{length, take, replicate};
+ghost use Rattle.loc_leaf.specs.declared.Kind.the-variants.{Paired};
+ghost use Rattle.loc_leaf.specs.Bytes.{Bytes};
+ghost use Rattle.loc_leaf.specs.Kind.{checkpointWidth};
+ghost use Rattle.loc_leaf.specs.Answers.{refuse};
+ghost use Rattle.loc_calls.specs.Areas.{areas};
+ghost use Rattle.loc_calls.specs.Table.{wordWidth};
+ghost use Rattle.loc_calls.specs.Reading.{windowEnd, anyMissing, wordsFor};
+ghost use Rattle.loc_order.specs.Order.{sorted};
+ghost use Rattle.loc_order.specs.Keys.{keysFrom};
+ghost use Rattle.loc_read.specs.Walk.{Readable, Finished};
+use crate::runs::run_at;
+use crate::runs::wanted_by;
+use loc_answer::put::put_run;
+use loc_leaf::Kind;
+use loc_leaf::delta_loc::LOC_WINDOW;
+use loc_leaf::delta_loc::checkpoint_width;
+use loc_leaf::delta_loc::loc_window;
+use loc_leaf::file::FILE_HEADER_LEN;
+use loc_leaf::file::u64_at;
+use loc_window::Step;
+use loc_window::Sums;
+use loc_window::window::copy_slots;
+use loc_window::window::slot_step;
+
+// Where the bodies of a window begin, or at 8 its spans: 16 in window 0, else as its checkpoint says.
+fn window_end(kind: Kind, checkpoints: &[u8], at: usize, w: u64) -> u64
+    requires { ⌜ (at ≤ 8) × (w < 2 ^ 56) ⌝ }
+    ensures { λ r. ⌜ ((s t : Bytes) → at + 8 ≤ checkpointWidth kind → r ≡ windowEnd kind (areas s t (now (checkpoints .entry))) at w) ⌝ }
+{
+    if w == 0 {
+        return 16;
+    }
+    let width = checkpoint_width(kind);
+    u64_at(checkpoints, FILE_HEADER_LEN + width * (w - 1) as usize + at)
+}
+
+// The answers of all keys, each at its number's place, or 17 where a slot that is looked at lacks its row.
+pub fn finish_range_batch(
+    kind: Kind,
+    slots: &[u8],
+    rows: &[u8],
+    checkpoints: &[u8],
+    count: u64,
+    row_count: usize,
+    wanted: &[u64],
+    keys: &[u64],
+    out: &mut [u64],
+) -> u64
+    requires { ⌜ Readable kind (areas (now slots) (now rows) (now checkpoints)) count «row_count» ⌝ }
+    requires { ⌜ (length (now wanted) ≤ 1024) × (now keys ≡ sorted (keysFrom count 0 (now wanted))) × (wordWidth kind * length (now wanted) ≤ length (now out)) × (now out ≡ replicate (length (now out)) 0) ⌝ }
+    ensures { λ r. ⌜ Finished kind (areas (now (slots .entry)) (now (rows .entry)) (now (checkpoints .entry))) (now (wanted .entry)) (now (out .exit)) r ⌝ }
+{
+    let mut bytes = [0u8; 2048];
+    let mut body = [0u64; 1025];
+    let mut span = [0u64; 1025];
+    let mut mark = [0u64; 128];
+    let mut number: u64 = 0;
+    let mut i: usize = 0;
+    'windows: while i < keys.len() {
+        let stamp = i as u64 + 1;
+        let run = run_at(kind, count, wanted, keys, i, stamp, &mut mark);
+        let m = run.m;
+        let w = loc_window(wanted_by(wanted, keys, i));
+        let first = LOC_WINDOW * w;
+        copy_slots(
+            slots,
+            FILE_HEADER_LEN + 2 * first as usize,
+            2 * m,
+            &mut bytes,
+        );
+        let mut s = Sums {
+            strides: 0,
+            spans: 0,
+            row: row_count + 1,
+        };
+        let mut block: usize = 0;
+        while 8 * block < m {
+            let step = slot_step(
+                kind,
+                &bytes,
+                block,
+                m,
+                &mark,
+                stamp,
+                rows,
+                row_count,
+                first,
+                s,
+                &mut body,
+                &mut span,
+            );
+            match step {
+                Step::Next(t) => {
+                    s = t;
+                    block += 1;
+                }
+                Step::Lack => {
+                    number = 17;
+                    break 'windows;
+                }
+            }
+        }
+        let body_end = window_end(kind, checkpoints, 0, w);
+        let span_end = window_end(kind, checkpoints, 8, w);
+        put_run(
+            kind,
+            wanted,
+            keys,
+            i,
+            run.end,
+            body_end,
+            span_end,
+            &body,
+            &span,
+            out,
+        );
+        i = run.end;
+    }
+    number
+}
