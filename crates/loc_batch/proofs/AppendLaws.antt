@@ -69,29 +69,15 @@ module _ (xs : Bytes) (old new : ℕ) where
 
 -- ---- the places
 
-step-growing-slots : (s r c : Bytes) (old new : ℕ) → step (growing slotLength old new) (areas s r c) ≡ areas (grown old new s) r c
+-- a place that stores a new length, in whichever area
+step-growing : (place : ℕ → Place) (inside : Bytes → Areas) (xs : Bytes) → ((v : ℕ) → step (place v) (inside xs) ≡ inside (storeLength v xs))
+    → (old new : ℕ) → step (growing place old new) (inside xs) ≡ inside (grown old new xs)
 unfolding step growing grown
-step-growing-slots s r c old new = go (eqb new old)
+step-growing place inside xs h old new = go (eqb new old)
   where
-    go : (b : Bool) → step (cond b keep (slotLength new)) (areas s r c) ≡ areas (cond b s (storeLength new s)) r c
+    go : (b : Bool) → step (cond b keep (place new)) (inside xs) ≡ inside (cond b xs (storeLength new xs))
     go true = refl
-    go false = refl
-
-step-growing-rows : (s r c : Bytes) (old new : ℕ) → step (growing rowLength old new) (areas s r c) ≡ areas s (grown old new r) c
-unfolding step growing grown
-step-growing-rows s r c old new = go (eqb new old)
-  where
-    go : (b : Bool) → step (cond b keep (rowLength new)) (areas s r c) ≡ areas s (cond b r (storeLength new r)) c
-    go true = refl
-    go false = refl
-
-step-growing-checkpoints : (s r c : Bytes) (old new : ℕ) → step (growing checkpointLength old new) (areas s r c) ≡ areas s r (grown old new c)
-unfolding step growing grown
-step-growing-checkpoints s r c old new = go (eqb new old)
-  where
-    go : (b : Bool) → step (cond b keep (checkpointLength new)) (areas s r c) ≡ areas s r (cond b c (storeLength new c))
-    go true = refl
-    go false = refl
+    go false = h new
 
 module _ (k : Kind) (es : List Entry) (t : Stage) (p : ℕ) (s r c : Bytes) where
   pub place-bytes : (x y z : Bytes) → p ≡ 0 → areas x y z ≡ step (write (each flatten (staged k (t .base) es))) (areas s r c) → areas x y z ≡ step (getD (stagePlaces k es t) p keep) (areas s r c)
@@ -99,16 +85,16 @@ module _ (k : Kind) (es : List Entry) (t : Stage) (p : ℕ) (s r c : Bytes) wher
   place-bytes x y z e q = rw e q
 
   pub place-slots : (x : Bytes) → p ≡ 1 → x ≡ grown (t .old .slots) (t .new .slots) s → areas x r c ≡ step (getD (stagePlaces k es t) p keep) (areas s r c)
-  unfolding stagePlaces
-  place-slots x e q = rw (e, q) (sym (step-growing-slots s r c (t .old .slots) (t .new .slots)))
+  unfolding stagePlaces step
+  place-slots x e q = rw (e, q) (sym (step-growing slotLength (λ x. areas x r c) s (λ v. refl) (t .old .slots) (t .new .slots)))
 
   pub place-rows : (x : Bytes) → p ≡ 2 → x ≡ grown (t .old .rows) (t .new .rows) r → areas s x c ≡ step (getD (stagePlaces k es t) p keep) (areas s r c)
-  unfolding stagePlaces
-  place-rows x e q = rw (e, q) (sym (step-growing-rows s r c (t .old .rows) (t .new .rows)))
+  unfolding stagePlaces step
+  place-rows x e q = rw (e, q) (sym (step-growing rowLength (λ x. areas s x c) r (λ v. refl) (t .old .rows) (t .new .rows)))
 
   pub place-checkpoints : (x : Bytes) → p ≡ 3 → x ≡ grown (t .old .checkpoints) (t .new .checkpoints) c → areas s r x ≡ step (getD (stagePlaces k es t) p keep) (areas s r c)
-  unfolding stagePlaces
-  place-checkpoints x e q = rw (e, q) (sym (step-growing-checkpoints s r c (t .old .checkpoints) (t .new .checkpoints)))
+  unfolding stagePlaces step
+  place-checkpoints x e q = rw (e, q) (sym (step-growing checkpointLength (λ x. areas s r x) c (λ v. refl) (t .old .checkpoints) (t .new .checkpoints)))
 
   pub place-none : (p ≡ 0 → ⊥) → (p ≡ 1 → ⊥) → (p ≡ 2 → ⊥) → (p ≡ 3 → ⊥) → areas s r c ≡ step (getD (stagePlaces k es t) p keep) (areas s r c)
   unfolding stagePlaces step

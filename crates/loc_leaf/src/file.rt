@@ -27,8 +27,8 @@ fn four(a: u8, b: u8, c: u8, d: u8) -> u32
     a as u32 + b as u32 * 0x100 + c as u32 * 0x1_0000 + d as u32 * 0x100_0000
 }
 
-// Two halves: the compiler joins the eight loads into one only in this form.
-fn eight(a: u8, b: u8, c: u8, d: u8, e: u8, f: u8, g: u8, h: u8) -> u64
+// The number that eight bytes spell, in two halves: the compiler joins the eight loads into one only in this form.
+pub fn eight(a: u8, b: u8, c: u8, d: u8, e: u8, f: u8, g: u8, h: u8) -> u64
     ensures { λ r. ⌜ r ≡ a + b * 0x100 + c * 0x1_0000 + d * 0x100_0000 + e * 0x1_0000_0000 + f * 0x100_0000_0000 + g * 0x1_0000_0000_0000 + h * 0x100_0000_0000_0000 ⌝ }
 {
     four(a, b, c, d) as u64 + four(e, f, g, h) as u64 * 0x1_0000_0000

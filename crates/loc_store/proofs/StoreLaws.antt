@@ -13,6 +13,7 @@ use Rattle.loc_leaf.specs.Area.{counted, storeLength}
 use Rattle.loc_leaf.proofs.Booleans.{is?}
 use Rattle.loc_calls.specs.Areas.{Areas, areas}
 use Rattle.loc_calls.specs.Stores.{Place, slotLength, rowLength, checkpointLength, step, run, differing}
+use Rattle.loc_calls.proofs.Settled.{run-all}
 use Rattle.loc_store.specs.declared.Lengths.{Lengths}
 use Rattle.loc_store.specs.declared.Rules.{Rules}
 use Rattle.loc_store.specs.Plans.{fitted, placeAt, lengthPlaces, rulesPlaces}
@@ -107,17 +108,9 @@ module _ (t : Lengths) (a : Areas) where
       → d ≡ run (i + 1) (lengthPlaces t a) a
   run-next s end i b d m h e q = turn i b d (omega arith) e q
 
-  run-past : (n : ℕ) (x : Areas) → run n [] x ≡ x
-  unfolding run
-  run-past zero x = refl
-  run-past (suc n) x = refl
-
-  run-all : (s : ℕ) → 3 ≤ s → run s (lengthPlaces t a) a ≡ run 3 (lengthPlaces t a) a
-  unfolding run lengthPlaces
-  run-all zero h = absurd (omega arith)
-  run-all (suc zero) h = absurd (omega arith)
-  run-all (suc (suc zero)) h = absurd (omega arith)
-  run-all (suc (suc (suc n))) h = run-past n (run 3 (lengthPlaces t a) a)
+  run-full : (s : ℕ) → 3 ≤ s → run s (lengthPlaces t a) a ≡ run 3 (lengthPlaces t a) a
+  unfolding lengthPlaces
+  run-full s h = run-all s (lengthPlaces t a) a h
 
   -- a larger number of places is all of them
   run-min : (s : ℕ) → run (min s 3) (lengthPlaces t a) a ≡ run s (lengthPlaces t a) a
@@ -126,7 +119,7 @@ module _ (t : Lengths) (a : Areas) where
   run-min (suc (suc zero)) = refl
   run-min (suc (suc (suc n))) =
       let z : min (suc (suc (suc n))) 3 ≡ 3 = omega arith in
-      rw z (sym (run-all (suc (suc (suc n))) (omega arith)))
+      rw z (sym (run-full (suc (suc (suc n))) (omega arith)))
 
   pub run-end : (s end i : ℕ) (b : Areas) → end ≡ min s 3 → i ≤ end → end ≤ i → b ≡ run i (lengthPlaces t a) a → b ≡ run s (lengthPlaces t a) a
   run-end s end i b m h g e = let z : i ≡ min s 3 = omega arith in rw z at e ∙ run-min s
@@ -155,5 +148,5 @@ module _ (p : Rules) (a b : Areas) (s : ℕ) (e : b ≡ run s (lengthPlaces (p .
 
   pub rules-second : (d : Areas) → 3 < s → d ≡ run (s - 3) (lengthPlaces (p .cut) b) b → d ≡ run s (rulesPlaces p a) a
   rules-second d h q =
-      let three : b ≡ run 3 (lengthPlaces (p .checkpoint) a) a = e ∙ run-all (p .checkpoint) a s (omega arith) in
+      let three : b ≡ run 3 (lengthPlaces (p .checkpoint) a) a = e ∙ run-full (p .checkpoint) a s (omega arith) in
       q ∙ ap (λ (x : Areas). run (s - 3) (lengthPlaces (p .cut) x) b) three ∙ sym whole

@@ -7,29 +7,17 @@ ghost use lib.ListN.{length, take, drop};
 ghost use Rattle.loc_leaf.specs.Bytes.{bytes};
 ghost use Rattle.loc_leaf.specs.Block.{firsts, seconds};
 ghost use Rattle.loc_window.specs.Block.{total};
+use loc_leaf::file::eight;
 
 // The low byte of each of four lanes of sixteen bits.
 const BYTES: u64 = 0x00ff_00ff_00ff_00ff;
-
-fn half(a: u8, b: u8, c: u8, d: u8) -> u64
-    ensures { λ r. ⌜ r ≡ a + b * 0x100 + c * 0x1_0000 + d * 0x100_0000 ⌝ }
-{
-    a as u64 + b as u64 * 0x100 + c as u64 * 0x1_0000 + d as u64 * 0x100_0000
-}
-
-// Two halves: the compiler joins the eight loads into one only in this form.
-fn joined(a: u8, b: u8, c: u8, d: u8, e: u8, f: u8, g: u8, h: u8) -> u64
-    ensures { λ r. ⌜ r ≡ a + b * 0x100 + c * 0x1_0000 + d * 0x100_0000 + e * 0x1_0000_0000 + f * 0x100_0000_0000 + g * 0x1_0000_0000_0000 + h * 0x100_0000_0000_0000 ⌝ }
-{
-    half(a, b, c, d) + half(e, f, g, h) * 0x1_0000_0000
-}
 
 // Eight bytes of a slice as a word.
 pub fn word_at(s: &[u8], at: usize) -> u64
     requires { ⌜ at + 8 ≤ length (now s) ⌝ }
     ensures { λ r. ⌜ bytes 8 r ≡ take 8 (drop at (now (s .entry))) ⌝ }
 {
-    joined(
+    eight(
         s[at],
         s[at + 1],
         s[at + 2],
