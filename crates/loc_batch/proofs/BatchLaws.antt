@@ -17,10 +17,10 @@ use Rattle.loc_leaf.specs.Bytes.{Bytes, byte, bytes}
 use Rattle.loc_leaf.specs.Answers.{refuse, _orElse_}
 use Rattle.loc_leaf.specs.Slot.{stridesRefusal, slot, needsRow}
 use Rattle.loc_leaf.specs.Rows.{row}
-use Rattle.loc_calls.specs.Table.{Entry, Batch, valueOf, uneven, spanless, breaks, entryRefusal, entriesRefusal}
+use Rattle.loc_calls.specs.Table.{batch, Entry, Batch, valueOf, uneven, spanless, breaks, entryRefusal, entriesRefusal}
 use Rattle.loc_calls.specs.Stores.{gather, rowOf}
 use Rattle.loc_leaf.proofs.Refusals.{orElse-first, orElse-left, orElse-right, orElse-zero, refuse-zero}
-use Rattle.loc_batch.specs.Lists.{batch, entryAt, asEntry, listed, rowsOf, rowTotal, Tested}
+use Rattle.loc_batch.specs.Lists.{entryAt, asEntry, listed, rowsOf, rowTotal, Tested}
 use Rattle.loc_batch.specs.declared.Record.{Record}
 
 -- ---- the lists' lengths

@@ -14,8 +14,8 @@ use Rattle.loc_leaf.specs.declared.Answer.{Answer}
 use Rattle.loc_leaf.specs.Answers.{refuse, _orElse_, answer}
 use Rattle.loc_leaf.specs.Slot.{stridesRefusal, stridesFrom}
 use Rattle.loc_leaf.proofs.Refusals.{orElse-first}
-use Rattle.loc_calls.specs.Table.{Entry, Batch, bodyAfter, spanAfter, spanless, breaks, entryRefusal}
-use Rattle.loc_batch.specs.Lists.{batch, entryAt, asEntry}
+use Rattle.loc_calls.specs.Table.{batch, Entry, Batch, bodyAfter, spanAfter, spanless, breaks, entryRefusal}
+use Rattle.loc_batch.specs.Lists.{entryAt, asEntry}
 use Rattle.loc_batch.specs.declared.Record.{Record}
 
 module _ (k : Kind) (starts lens spanStarts spanCounts : List ℕ) (i a b : ℕ) (ea : a ≡ getD starts i 0) (eb : b ≡ getD lens i 0) where

@@ -13,9 +13,6 @@ use Rattle.loc_calls.specs.Stores.{gather, slotOf, rowOf, checkpointOf}
 use Rattle.loc_calls.specs.Table.{Batch, Entry, valueOf, entriesRefusal}
 use Rattle.loc_batch.specs.declared.Record.{Record}
 
-abbrev pub batch : List ℕ → List ℕ → List ℕ → List ℕ → Batch
-batch starts lens spanStarts spanCounts = record { starts = starts; lens = lens; spanStarts = spanStarts; spanCounts = spanCounts }
-
 -- record i of a batch, counted from 0
 unfoldable pub entryAt : Kind → Batch → ℕ → Entry
 entryAt Paired b i = record { start = getD (b .starts) i 0; len = getD (b .lens) i 0; spanStart = getD (b .spanStarts) i 0; spans = getD (b .spanCounts) i 0 }

@@ -1,10 +1,9 @@
 // Append: its refusals, then the stores of its first places.
 // Of an inner crate, as the public calls of both kinds use it.
 ghost use Rattle.loc_calls.specs.Areas.{areas};
-ghost use Rattle.loc_calls.specs.Table.{append};
+ghost use Rattle.loc_calls.specs.Table.{batch, append};
 ghost use Rattle.loc_calls.specs.Calls.{call};
 ghost use Rattle.loc_calls.specs.Promises.{Stored};
-ghost use Rattle.loc_batch.specs.Lists.{batch};
 use crate::append::append_stores;
 use crate::plan::plan_append;
 use loc_leaf::Answer;

@@ -19,6 +19,9 @@ pub record Batch : Type 0 where
   pub spanStarts : List ℕ
   pub spanCounts : List ℕ
 
+abbrev pub batch : List ℕ → List ℕ → List ℕ → List ℕ → Batch
+batch starts lens spanStarts spanCounts = record { starts = starts; lens = lens; spanStarts = spanStarts; spanCounts = spanCounts }
+
 -- a reading brings the wanted numbers and the answer buffer
 pub data Call : Type 0 where
   opening : Call

@@ -4,8 +4,9 @@ use borrow.Author.Needs.{needs}
 use lib.ListN.{length}
 use mathlib.Core.Path.{_≡_, refl}
 use native.Mathlib.Omega.{arith}
+use Rattle.loc_calls.specs.Table.{batch}
 use Rattle.loc_batch.proofs.AppendLaws.{room-first, run-turn, run-done}
-use Rattle.loc_batch.specs.Lists.{batch, entryAt, listed}
+use Rattle.loc_batch.specs.Lists.{entryAt, listed}
 use Rattle.loc_batch.specs.Plans.{stagePlaces}
 use Rattle.loc_calls.specs.Areas.{areas}
 use Rattle.loc_calls.specs.Stores.{run}

@@ -2,8 +2,9 @@
 use Prim.Native.Nat.{_-_}
 use borrow.Author.Needs.{needs}
 use native.Mathlib.Omega.{arith}
+use Rattle.loc_calls.specs.Table.{batch}
 use Rattle.loc_batch.proofs.BatchLaws.{Passed, strides-fit, passed-begin, passed-turn, passed-refused, last-refused, last-passed}
-use Rattle.loc_batch.specs.Lists.{batch, entryAt, asEntry}
+use Rattle.loc_batch.specs.Lists.{entryAt, asEntry}
 use Rattle.loc_batch.proofs.batch.check_batch.Statement.{statement}
 use Rattle.loc_batch.proofs.batch.check_batch.Tie as tie
 

@@ -1,8 +1,8 @@
 -- `batch::lists_agree` meets its contract.
 use borrow.Author.Needs.{needs}
 use denote.Ref.{now}
+use Rattle.loc_calls.specs.Table.{batch}
 use Rattle.loc_batch.proofs.BatchLaws.{uneven-starts, uneven-spans, even-paired, even-single}
-use Rattle.loc_batch.specs.Lists.{batch}
 use Rattle.loc_batch.proofs.batch.lists_agree.Statement.{statement}
 use Rattle.loc_batch.proofs.batch.lists_agree.Tie as tie
 

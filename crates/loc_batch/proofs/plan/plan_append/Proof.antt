@@ -3,8 +3,8 @@ use borrow.Author.Needs.{needs}
 use denote.Ref.{now}
 use mathlib.Core.Path.{refl}
 use native.Mathlib.Omega.{arith}
+use Rattle.loc_calls.specs.Table.{batch}
 use Rattle.loc_batch.proofs.PlanLaws.{plan-empty, plan-refused, plan-reached, plan-uneven, ends-inside}
-use Rattle.loc_batch.specs.Lists.{batch}
 use Rattle.loc_calls.specs.Areas.{areas, count}
 use Rattle.loc_batch.proofs.plan.plan_append.Statement.{statement}
 use Rattle.loc_batch.proofs.plan.plan_append.Tie as tie

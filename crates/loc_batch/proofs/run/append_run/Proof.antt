@@ -1,8 +1,8 @@
 -- `run::append_run` meets its contract.
 use borrow.Author.Needs.{needs}
 use denote.Ref.{now}
+use Rattle.loc_calls.specs.Table.{batch}
 use Rattle.loc_batch.proofs.RunLaws.{append-refused, append-planned, append-room, append-done}
-use Rattle.loc_batch.specs.Lists.{batch}
 use Rattle.loc_batch.proofs.run.append_run.Statement.{statement}
 use Rattle.loc_batch.proofs.run.append_run.Tie as tie
 

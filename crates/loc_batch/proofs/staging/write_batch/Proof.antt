@@ -2,8 +2,9 @@
 use Prim.Native.Nat.{_-_}
 use borrow.Author.Needs.{needs}
 use mathlib.Core.Path.{refl}
+use Rattle.loc_calls.specs.Table.{batch}
 use Rattle.loc_batch.proofs.StageLaws.{Writing, writing-begin, writing-end, writing-fits, writing-slot, writing-row, writing-checkpoint, writing-turn}
-use Rattle.loc_batch.specs.Lists.{batch, entryAt, asEntry}
+use Rattle.loc_batch.specs.Lists.{entryAt, asEntry}
 use Rattle.loc_batch.proofs.staging.write_batch.Statement.{statement}
 use Rattle.loc_batch.proofs.staging.write_batch.Tie as tie
 
