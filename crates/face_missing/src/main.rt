@@ -1,0 +1,5 @@
+// No files: each counts as empty.
+// The files are in data/, what is printed in stdout.
+fn main() {
+    face_files::list_face();
+}

@@ -1,0 +1,77 @@
+#!/usr/bin/env python3
+# Writes data/ and stdout of the programs crates/face_*: the files of a face, and the listing that document 01's rules ask of them.
+# Run it in the repository's root; the gate runs the programs and needs no Python.
+import os
+from struct import pack
+
+NAMES = "record body_start body_len span_start span_len spans\n"
+
+
+def area(data, published=None):
+    """Eight bytes that nobody reads, the published length, the data."""
+    return bytes(8) + pack("<Q", 16 + len(data) if published is None else published) + data
+
+
+def face(records):
+    """The three areas of a list of (body length, span count), and their lines."""
+    slots = rows = checkpoints = b""
+    body = span = 16
+    lines = []
+    for number, (length, spans) in enumerate(records, 1):
+        strides = length // 8
+        low, high = (v if v <= 255 else 0 for v in (strides, spans))
+        slots += bytes([low, high])
+        if low == 0 or high == 0:
+            rows += pack("<QII", number, strides, spans)
+        lines.append(f"{number} {body} {length} {span} {8 * spans} {spans}\n")
+        body += length
+        span += 8 * spans
+        if number % 1024 == 0:
+            checkpoints += pack("<QQ", body, span)
+    return slots, rows, checkpoints, lines
+
+
+def write(name, slots, rows, checkpoints, text):
+    data = f"crates/{name}/data"
+    for file, content in (("face.loc", slots), ("face.loc.ovf", rows), ("face.off", checkpoints)):
+        if content is not None:
+            os.makedirs(data, exist_ok=True)
+            with open(f"{data}/{file}", "wb") as out:
+                out.write(content)
+    with open(f"crates/{name}/stdout", "w") as out:
+        out.write(text)
+
+
+def listed(name, records):
+    slots, rows, checkpoints, lines = face(records)
+    write(name, area(slots), area(rows), area(checkpoints), NAMES + "".join(lines))
+
+
+# a small corpus: document 01's two records, values on either side of a byte's limit, and rows
+listed("face_list", [(40, 3), (2048, 1), (2040, 255), (2048, 256), (8, 300), (800000, 70000), (16, 2)])
+# document 01's example
+listed("face_two", [(40, 3), (2048, 1)])
+# one record past the first window, with rows before and after its edge
+listed("face_windows", [(8 * (1 + i % 300), 1 + i % 7) for i in range(1026)])
+# no records
+listed("face_empty", [])
+
+empty = area(b"")
+two = face([(40, 3), (2048, 1)])
+write("face_small", empty, empty[:15], empty, "refused 1\n")
+write("face_odd_slots", area(b"\5\3\1"), empty, empty, "refused 2\n")
+write("face_ragged_checkpoints", area(two[0]), area(two[1]), area(bytes(8)), "refused 3\n")
+write("face_ragged_rows", area(two[0]), area(two[1] + bytes(8)), empty, "refused 4\n")
+write("face_row_order", area(two[0]), area(two[1] + two[1]), empty, "refused 5\n")
+
+# the row of record 1,025 is missing: window 0 is listed, then 17
+slots, rows, checkpoints, lines = face([(8, 1)] * 1024 + [(2048, 1)])
+write("face_row_missing", area(slots), empty, area(checkpoints), NAMES + "".join(lines[:1024]) + "refused 17\n")
+
+# the row of record 1,024 stands past byte 16,384 and is not read
+slots, rows, checkpoints, lines = face([(2048, 1)] * 1024)
+write("face_long", area(slots), area(rows), area(checkpoints), NAMES + "refused 17\n")
+
+# no files, and two of three
+write("face_missing", None, None, None, "refused 1\n")
+write("face_one_file", area(two[0]), None, None, "refused 1\n")
