@@ -1,7 +1,7 @@
 -- The places of an append, in the form in which the code meets them.
 -- A part that was lent comes back as a store in the whole.
-use Prim.Native.Nat.{ℕ, zero, suc, _+_, _-_, _*_, _/_, _%_, _^_, _≤_, _<_, min}
-use mathlib.Core.Path.{_≡_, refl, sym, ap, _∙_}
+use Prim.Native.Nat.{ℕ, zero, suc, _+_, _-_, _≤_, min}
+use mathlib.Core.Path.{_≡_, refl, sym, _∙_}
 use mathlib.Core.Bool.{Bool, true, false, cond}
 use mathlib.Core.List.{List, [], _∷_, _++_, append-nil, flatten}
 use native.Mathlib.Nat.{add-zero, add-suc}
@@ -10,20 +10,19 @@ use native.Mathlib.Omega.{arith}
 use native.Mathlib.Decide.{decLe}
 use lib.Dec.{eqb}
 use lib.ListN.{length, take, drop, set, getD, take-append-drop, length-drop, drop-of-length-le}
-use lib.Seq.{sets, take-set-le, drop-set-add}
+use lib.Seq.{take-set-le, drop-set-add}
 use borrow.Rule.Slice.PartMut.{putMid}
 use borrow.Author.Tests.{eq-eqb, ne-eqb}
 use Rattle.loc_leaf.specs.declared.Kind.{Kind}
 use Rattle.loc_leaf.specs.Bytes.{Bytes, store}
 use Rattle.loc_leaf.specs.Area.{counted, storeLength, storePast}
 use Rattle.loc_leaf.proofs.NumberLaws.{part-all}
-use Rattle.loc_leaf.proofs.AreaLaws.{counted-le}
 use Rattle.loc_calls.specs.Areas.{Areas, each, areas}
 use Rattle.loc_calls.specs.Table.{Entry}
 use Rattle.loc_calls.specs.Stores.{Place, keep, slotLength, rowLength, checkpointLength, write, step, run, gather, slotOf, rowOf, checkpointOf, staged}
 use Rattle.loc_calls.proofs.Settled.{run-next, run-all}
 use Rattle.loc_batch.specs.Lists.{Room, Staged}
-use Rattle.loc_batch.specs.Plans.{growing, grown, stagePlaces, RoomPast, Ready}
+use Rattle.loc_batch.specs.Plans.{growing, grown, stagePlaces, RoomPast}
 use Rattle.loc_batch.specs.declared.Stage.{Stage}
 
 -- ---- a part that was lent

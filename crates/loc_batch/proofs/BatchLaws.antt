@@ -1,27 +1,25 @@
 -- A batch record by record: its entries by place, its first refusal, and how many rows it stages.
 -- Laws in the form in which the code meets them.
-use Prim.Native.Nat.{ℕ, zero, suc, _+_, _-_, _*_, _/_, _%_, _^_, _≤_, _<_}
+use Prim.Native.Nat.{ℕ, suc, _+_, _-_, _/_, _%_, _^_, _≤_, _<_}
 use mathlib.Core.Path.{_≡_, refl, sym, ap, _∙_}
-use mathlib.Core.Bool.{Bool, true, false, cond, not, _&&_, _||_}
+use mathlib.Core.Bool.{Bool, true, false, cond, not, _||_}
 use mathlib.Core.List.{List, [], _∷_, _++_}
 use native.Mathlib.Nat.{add-zero, zero-add, add-assoc, sub-zero}
-use native.Mathlib.Numerals.{add-one}
 use native.Mathlib.Omega.{arith}
 use lib.Dec.{leb, eqb}
-use lib.ListN.{length, getD, length-append}
-use borrow.Author.Tests.{eq-eqb, ne-eqb, lt-leb, leb-false}
+use lib.ListN.{length, length-append}
+use borrow.Author.Tests.{eq-eqb, ne-eqb, leb-false}
 use Rattle.loc_leaf.specs.declared.Kind.{Kind}
 use Rattle.loc_leaf.specs.declared.Kind.the-variants.{Paired, Single}
 use Rattle.loc_leaf.specs.declared.Value.{Value}
-use Rattle.loc_leaf.specs.Bytes.{Bytes, byte, bytes}
+use Rattle.loc_leaf.specs.Bytes.{Bytes, byte}
 use Rattle.loc_leaf.specs.Answers.{refuse, _orElse_}
 use Rattle.loc_leaf.specs.Slot.{stridesRefusal, slot, needsRow}
 use Rattle.loc_leaf.specs.Rows.{row}
-use Rattle.loc_calls.specs.Table.{batch, Entry, Batch, valueOf, uneven, spanless, breaks, entryRefusal, entriesRefusal}
+use Rattle.loc_calls.specs.Table.{Entry, Batch, valueOf, uneven, spanless, breaks, entryRefusal, entriesRefusal}
 use Rattle.loc_calls.specs.Stores.{gather, rowOf}
 use Rattle.loc_leaf.proofs.Refusals.{orElse-first, orElse-left, orElse-right, orElse-zero, refuse-zero}
-use Rattle.loc_batch.specs.Lists.{entryAt, asEntry, listed, rowsOf, rowTotal, Tested}
-use Rattle.loc_batch.specs.declared.Record.{Record}
+use Rattle.loc_batch.specs.Lists.{listed, rowsOf, rowTotal, Tested}
 
 -- ---- the lists' lengths
 

@@ -1,10 +1,9 @@
 -- One record of a batch in the form in which the code meets it: a law for each way through a function.
 -- The results of calls and the tests are premises.
-use Prim.Native.Nat.{ℕ, zero, suc, _+_, _*_, _/_}
-use mathlib.Core.Path.{_≡_, refl, sym, ap, _∙_}
-use mathlib.Core.Bool.{Bool, true, false, cond, not}
+use Prim.Native.Nat.{ℕ, zero, suc, _/_}
+use mathlib.Core.Path.{_≡_, refl, sym, _∙_}
+use mathlib.Core.Bool.{Bool, true, false}
 use mathlib.Core.List.{List, [], _∷_}
-use native.Mathlib.Omega.{arith}
 use lib.Dec.{eqb}
 use lib.ListN.{getD}
 use borrow.Author.Tests.{eq-eqb, ne-eqb}
@@ -14,7 +13,7 @@ use Rattle.loc_leaf.specs.declared.Answer.{Answer}
 use Rattle.loc_leaf.specs.Answers.{refuse, _orElse_, answer}
 use Rattle.loc_leaf.specs.Slot.{stridesRefusal, stridesFrom}
 use Rattle.loc_leaf.proofs.Refusals.{orElse-first}
-use Rattle.loc_calls.specs.Table.{batch, Entry, Batch, bodyAfter, spanAfter, spanless, breaks, entryRefusal}
+use Rattle.loc_calls.specs.Table.{batch, Entry, bodyAfter, spanAfter, spanless, breaks, entryRefusal}
 use Rattle.loc_batch.specs.Lists.{entryAt, asEntry}
 use Rattle.loc_batch.specs.declared.Record.{Record}
 

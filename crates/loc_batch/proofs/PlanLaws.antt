@@ -1,9 +1,9 @@
 -- What an append decides before it stores, in the form in which the code meets it: 13, the ends, and the whole plan.
 -- The stage that is decided has the places of loc_calls.
-use Prim.Native.Nat.{ℕ, zero, suc, _+_, _-_, _*_, _/_, _%_, _^_, _≤_, _<_}
+use Prim.Native.Nat.{ℕ, zero, suc, _+_, _-_, _*_, _/_, _^_, _≤_, _<_}
 use mathlib.Core.Path.{_≡_, refl, sym, ap, _∙_}
 use mathlib.Core.Logic.{_⊎_, inl, inr}
-use mathlib.Core.Bool.{Bool, true, false, cond, not, _&&_, _||_, true≢false, false≢true}
+use mathlib.Core.Bool.{Bool, true, false, not, _&&_, true≢false, false≢true}
 use mathlib.Core.List.{List, [], _∷_, flatten}
 use native.Mathlib.Nat.{add-zero, zero-add, mul-comm, div-lt-iff-lt-mul, div-mul-le-self, mul-le-mul-right}
 use native.Mathlib.Omega.{arith}

@@ -2,8 +2,8 @@
 // A step makes the store of one place and no other; a run makes those of the first places.
 ghost use mathlib.Core.Path.{_≡_};
 ghost use mathlib.Core.List.{flatten};
-ghost use Prim.Native.Nat.{ℕ, _-_, _≤_, min};
-ghost use lib.ListN.{length, getD};
+ghost use Prim.Native.Nat.{_-_, min};
+ghost use lib.ListN.{getD};
 ghost use Rattle.loc_calls.specs.Table.{batch};
 ghost use Rattle.loc_calls.specs.Areas.{each, areas};
 ghost use Rattle.loc_calls.specs.Stores.{keep, write, step, run, staged};

@@ -2,8 +2,7 @@
 // One pass over the records decides both.
 ghost use mathlib.Core.Path.{_≡_};
 ghost use mathlib.Core.Bool.{not};
-ghost use Prim.Native.Nat.{ℕ, _/_, _^_, _≤_, _<_};
-ghost use lib.ListN.{length};
+ghost use Prim.Native.Nat.{_/_, _^_, _≤_, _<_};
 ghost use Rattle.loc_calls.specs.Table.{batch, uneven};
 ghost use Rattle.loc_batch.specs.Lists.{entryAt, asEntry, listed, rowsOf, Tested};
 use crate::Record;

@@ -2,7 +2,7 @@
 // Lists are read by place; past its end a list counts as 0.
 ghost use mathlib.Core.Path.{_≡_};
 ghost use mathlib.Core.List.{[], _∷_};
-ghost use Prim.Native.Nat.{_+_, _*_, _/_, _^_, _≤_, _<_};
+ghost use Prim.Native.Nat.{_*_, _/_, _^_, _<_};
 ghost use lib.ListN.{getD};
 ghost use Rattle.loc_calls.specs.Table.{batch, valueOf, bodyAfter, spanAfter, spanless, breaks, entryRefusal};
 ghost use Rattle.loc_batch.specs.Lists.{entryAt, asEntry};

@@ -2,12 +2,9 @@
 // Nothing is stored here.
 ghost use mathlib.Core.Path.{_≡_};
 ghost use mathlib.Core.Bool.{false};
-ghost use Prim.Native.Nat.{ℕ, _+_, _-_, _*_, _/_, _^_, _≤_, _<_};
+ghost use Prim.Native.Nat.{_+_, _-_, _*_, _/_, _≤_, _<_};
 ghost use lib.Dec.{ltb};
-ghost use lib.ListN.{length};
 ghost use Rattle.loc_calls.specs.Table.{batch};
-ghost use Rattle.loc_leaf.specs.Area.{counted};
-ghost use Rattle.loc_leaf.specs.Kind.{rowWidth, checkpointWidth};
 ghost use Rattle.loc_calls.specs.Areas.{areas};
 ghost use Rattle.loc_batch.specs.Plans.{EndsOf, Reaches, Planned};
 use crate::Decision;

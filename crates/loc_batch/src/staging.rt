@@ -2,12 +2,12 @@
 // Each writer answers the place past what it wrote.
 ghost use mathlib.Core.Path.{_≡_};
 ghost use mathlib.Core.List.{flatten};
-ghost use Prim.Native.Nat.{ℕ, _+_, _*_, _/_, _^_, _≤_, _<_};
+ghost use Prim.Native.Nat.{_+_, _/_, _^_, _≤_, _<_};
 ghost use lib.ListN.{length};
 ghost use Rattle.loc_leaf.specs.Bytes.{store};
 ghost use Rattle.loc_leaf.specs.Kind.{rowWidth, checkpointWidth};
 ghost use Rattle.loc_leaf.specs.Rows.{row};
-ghost use Rattle.loc_calls.specs.Table.{batch, valueOf};
+ghost use Rattle.loc_calls.specs.Table.{batch};
 ghost use Rattle.loc_calls.specs.Stores.{checkpoint, slotOf, rowOf, checkpointOf};
 ghost use Rattle.loc_batch.specs.Lists.{entryAt, asEntry, listed, Written, Room, Staged};
 use crate::Record;

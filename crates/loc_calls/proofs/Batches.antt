@@ -2,9 +2,8 @@
 -- A batch that is not refused and starts where a good list ends makes a longer good list.
 use Prim.Native.Nat.{ℕ, zero, suc, _+_, _*_, _/_, _%_, _^_, _≤_, _<_}
 use mathlib.Core.Path.{_≡_, refl, _∙_}
-use mathlib.Core.Bool.{Bool, true, false, not, _||_}
+use mathlib.Core.Bool.{Bool, false, not, _||_}
 use mathlib.Core.List.{List, [], _∷_, _++_, flatten}
-use native.Mathlib.Nat.{suc-ne-zero}
 use native.Mathlib.Omega.{arith}
 use lib.Dec.{leb, ltb, eqb}
 use lib.ListN.{length, replicate}
@@ -15,7 +14,7 @@ use Rattle.loc_leaf.specs.Bytes.{Bytes}
 use Rattle.loc_leaf.specs.Answers.{refuse, _orElse_}
 use Rattle.loc_leaf.specs.Slot.{stridesRefusal}
 use Rattle.loc_leaf.proofs.Booleans.{neither-left, neither-right}
-use Rattle.loc_leaf.proofs.Refusals.{orElse-left, orElse-right, orElse-zero, refuse-zero}
+use Rattle.loc_leaf.proofs.Refusals.{orElse-left, orElse-right, refuse-zero}
 use Rattle.loc_leaf.proofs.AreaLaws.{counted-le}
 use Rattle.loc_leaf.proofs.ValueLaws.{SpansFit}
 use Rattle.loc_calls.specs.Areas.{Three, Areas, sizes, count}

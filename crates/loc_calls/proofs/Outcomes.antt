@@ -1,7 +1,7 @@
 -- A call in the form in which code meets it: its answer and what it leaves, at once.
 -- A refusal leaves everything; an accepted call has made its stores, or stored its answers.
 use Prim.Native.Nat.{ℕ, zero, suc}
-use mathlib.Core.Path.{_≡_, refl, sym, _∙_}
+use mathlib.Core.Path.{_≡_, refl, sym}
 use mathlib.Core.Bool.{false, not}
 use mathlib.Core.List.{List}
 use Rattle.loc_leaf.specs.declared.Kind.{Kind}

@@ -9,7 +9,7 @@ use Rattle.loc_leaf.specs.declared.Kind.{Kind}
 use Rattle.loc_leaf.specs.declared.Kind.the-variants.{Paired, Single}
 use Rattle.loc_leaf.specs.declared.Value.{Value}
 use Rattle.loc_leaf.specs.declared.Answer.{Answer}
-use Rattle.loc_leaf.specs.Bytes.{Bytes, byte, number, bytes}
+use Rattle.loc_leaf.specs.Bytes.{Bytes, byte, bytes}
 use Rattle.loc_leaf.specs.Answers.{refuse, _orElse_, answer}
 
 -- 9: length 0 or no multiple of 8; 10: more than 2^32 − 1 strides

@@ -1,6 +1,6 @@
 -- The starred values of document 01, "Values on either side": one table, and the proposition that it holds.
 -- Each line computes from the definitions; proofs/Starred has the proof. The unstarred values stand in the table too.
-use Prim.Native.Nat.{ℕ, _+_, _*_}
+use Prim.Native.Nat.{ℕ, _+_}
 use mathlib.Core.Path.{_≡_}
 use mathlib.Core.Bool.{Bool, true, false, not, _&&_}
 use mathlib.Core.List.{List, [], _∷_, _++_}

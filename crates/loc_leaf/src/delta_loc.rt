@@ -3,12 +3,11 @@
 ghost use mathlib.Core.Path.{_≡_};
 ghost use mathlib.Core.List.{[], _∷_};
 ghost use Prim.Native.Nat.{_+_, _-_, _*_, _^_, _≤_, _<_, min};
-ghost use lib.ListN.{length};
 ghost use Rattle.loc_leaf.specs.Bytes.{byte};
 ghost use Rattle.loc_leaf.specs.Area.{fill};
 ghost use Rattle.loc_leaf.specs.Kind.{rowWidth, checkpointWidth, windowOf, withinWindow};
 ghost use Rattle.loc_leaf.specs.Slot.{stridesFrom, below, slot, needsRow, inline, slotAt, checkpointRule};
-ghost use Rattle.loc_leaf.specs.Rows.{rowNumber, rowValue, rowList, ascending, lastNumber, rowsUpToByHalves, lookupByHalves, slotValueByHalves};
+ghost use Rattle.loc_leaf.specs.Rows.{rowValue, rowList, ascending, lastNumber, rowsUpToByHalves, lookupByHalves, slotValueByHalves};
 ghost use Rattle.loc_leaf.specs.Cut.{agrees, overflows, matches, cutFor};
 use crate::Answer;
 use crate::Kind;

@@ -1,8 +1,8 @@
 -- The texts computed: the least and the largest number, and document 01's lines.
 -- The bytes are those of the digits 48 to 57, the space 32 and the line feed 10.
-use Prim.Native.Nat.{ℕ, _-_, _^_}
+use Prim.Native.Nat.{_-_, _^_}
 use mathlib.Core.Path.{_≡_, refl}
-use mathlib.Core.List.{List, [], _∷_}
+use mathlib.Core.List.{[], _∷_}
 use Rattle.loc_listing.specs.Text.{digits, decimal, line, recordLine, recordLines, refusedLine}
 
 decimal-0 : decimal 0 ≡ 48 ∷ []

@@ -1,10 +1,10 @@
 // The text of a listing, put into a buffer that the caller lends.
 // Where a buffer is too short nothing is put, and the answer is 0.
 ghost use mathlib.Core.List.{[], _∷_, _++_};
-ghost use Prim.Native.Nat.{ℕ, _+_, _*_, _^_, _≤_, _<_};
+ghost use Prim.Native.Nat.{_+_, _*_, _^_, _≤_, _<_};
 ghost use mathlib.Core.Path.{_≡_};
 ghost use lib.ListN.{length};
-ghost use Rattle.loc_listing.specs.Text.{digits, decimal, line, recordLines, refusedLine, windowText, refusedText, fits, Put};
+ghost use Rattle.loc_listing.specs.Text.{digits, decimal, line, recordLines, windowText, refusedText, fits, Put};
 
 // At most `most` digits of n at a place; the answer is the place after them.
 fn put_digits(out: &mut [u8], at: usize, n: u64, most: usize) -> usize

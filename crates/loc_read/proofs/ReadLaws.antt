@@ -1,7 +1,7 @@
 -- A reading in the form in which the code meets it: number, value and answer buffer at once.
 -- 1, 6; 15, 16; 17; then an answer for each wanted number.
 use Prim.Native.Nat.{ℕ, _+_, _-_, _*_, _^_, _≤_, _<_}
-use mathlib.Core.Path.{_≡_, refl, sym, ap, _∙_}
+use mathlib.Core.Path.{_≡_, refl, sym, _∙_}
 use mathlib.Core.Bool.{not}
 use mathlib.Core.List.{List, _++_}
 use native.Mathlib.Omega.{arith}

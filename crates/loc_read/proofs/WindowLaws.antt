@@ -1,9 +1,9 @@
 -- One window of the walk: its slot loop, and what its sums say of the wanted numbers that lie in it.
 -- f is the record before the window, m how many of its records are looked at.
-use Prim.Native.Nat.{ℕ, zero, suc, _+_, _-_, _*_, _/_, _^_, _≤_, _<_, min}
+use Prim.Native.Nat.{ℕ, zero, suc, _+_, _-_, _*_, _^_, _≤_, _<_, min}
 use mathlib.Core.Path.{_≡_, refl, sym, ap, _∙_, subst}
 use mathlib.Core.Logic.{_⊎_, inl, inr}
-use mathlib.Core.Bool.{Bool, true, false, cond, not, _&&_, false≢true}
+use mathlib.Core.Bool.{Bool, true, false, not, _&&_, false≢true}
 use mathlib.Core.List.{List}
 use native.Mathlib.Nat.{le-refl, mul-comm, mul-le-mul-left}
 use native.Mathlib.Numerals.{add-one}
@@ -18,22 +18,21 @@ use Rattle.loc_leaf.specs.Kind.{checkpointWidth, windowOf, withinWindow}
 use Rattle.loc_leaf.proofs.Booleans.{is?}
 use Rattle.loc_leaf.proofs.RowLaws.{field-in}
 use Rattle.loc_calls.specs.Areas.{Areas, areas}
-use Rattle.loc_calls.specs.Table.{wordWidth}
-use Rattle.loc_calls.specs.Reading.{sumAfter, allAfter, lookupAt, has, valueAt, stridesAfter, spansAfter, before, checkpointAt, windowEnd, lookedAt, within, rowMissing, words, wordsFor}
+use Rattle.loc_calls.specs.Reading.{sumAfter, lookupAt, has, valueAt, stridesAfter, spansAfter, before, checkpointAt, windowEnd, lookedAt, within, rowMissing, words, wordsFor}
 use Rattle.loc_order.specs.Order.{All}
 use Rattle.loc_order.specs.Keys.{wantedBy, KeyOf}
 use Rattle.loc_order.proofs.OrderLaws.{all-at}
-use Rattle.loc_answer.specs.Words.{Summed, sumWords, RunSafe, Agrees}
+use Rattle.loc_answer.specs.Words.{Summed, sumWords}
 use Rattle.loc_window.specs.declared.Sums.{Sums}
 use Rattle.loc_window.specs.declared.Step.{Step}
-use Rattle.loc_window.specs.declared.Step.the-variants.{Next, Lack}
+use Rattle.loc_window.specs.declared.Step.the-variants.{Next}
 use Rattle.loc_window.specs.Window.{placed, complete, Rising, After, sumsOf, Right, Ready, Stored, SlotStepped, Copied}
 use Rattle.loc_window.proofs.SumLaws.{all-more}
-use Rattle.loc_window.proofs.StepLaws.{ready-on, slot-next, slot-lack}
+use Rattle.loc_window.proofs.StepLaws.{slot-next}
 use Rattle.loc_window.proofs.WindowLaws.{after-none, stored-none, complete-same, right-strides, right-spans}
 use Rattle.loc_read.specs.Runs.{IsRun}
-use Rattle.loc_read.specs.Walk.{Readable, Summing, rightAt}
-use Rattle.loc_read.proofs.RunLaws.{looked-own, looked-few, looked-counted, key-there, key-some, key-counted}
+use Rattle.loc_read.specs.Walk.{Readable, Summing}
+use Rattle.loc_read.proofs.RunLaws.{looked-own, key-some, key-counted}
 
 -- ---- the slot loop
 

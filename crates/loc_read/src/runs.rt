@@ -1,7 +1,7 @@
 // The keys of one window: where they end, how many of the window's records they look at, and which blocks they mark.
 // A block is eight records; a stamp marks it for one run, so that marks need no clearing.
 ghost use mathlib.Core.Path.{_≡_};
-ghost use Prim.Native.Nat.{ℕ, _-_, _/_, _<_, _≤_, min, max};
+ghost use Prim.Native.Nat.{_-_, _/_, _<_, _≤_, min, max};
 ghost use lib.ListN.{length, getD, set};
 ghost use Rattle.loc_leaf.specs.Kind.{withinWindow};
 ghost use Rattle.loc_calls.specs.Reading.{before, lookedAt};

@@ -1,16 +1,13 @@
 // The walk over the windows of the wanted numbers: their answers, or 17.
 // Keys in any order would do; no answer rests on it.
 ghost use mathlib.Core.Path.{_≡_};
-ghost use mathlib.Core.List.{map, flatten};
 ghost use Prim.Native.Nat.{_+_, _*_, _^_, _<_, _≤_};
-ghost use lib.ListN.{length, take, replicate};
-ghost use Rattle.loc_leaf.specs.declared.Kind.the-variants.{Paired};
+ghost use lib.ListN.{length, replicate};
 ghost use Rattle.loc_leaf.specs.Bytes.{Bytes};
 ghost use Rattle.loc_leaf.specs.Kind.{checkpointWidth};
-ghost use Rattle.loc_leaf.specs.Answers.{refuse};
 ghost use Rattle.loc_calls.specs.Areas.{areas};
 ghost use Rattle.loc_calls.specs.Table.{wordWidth};
-ghost use Rattle.loc_calls.specs.Reading.{windowEnd, anyMissing, wordsFor};
+ghost use Rattle.loc_calls.specs.Reading.{windowEnd};
 ghost use Rattle.loc_order.specs.Order.{sorted};
 ghost use Rattle.loc_order.specs.Keys.{keysFrom};
 ghost use Rattle.loc_read.specs.Walk.{Readable, Finished};

@@ -1,21 +1,20 @@
 -- Create, open and truncate in the form in which the code meets them: number, value and areas at once.
 -- A refusal leaves the areas; an accepted call has made the stores of its first places.
-use Prim.Native.Nat.{ℕ, zero, suc, _≤_, _<_}
+use Prim.Native.Nat.{ℕ, _≤_, _<_}
 use mathlib.Core.Path.{_≡_, refl, sym, ap, _∙_}
 use mathlib.Core.Bool.{Bool, true, false, not}
 use native.Mathlib.Omega.{arith}
 use lib.Dec.{ltb}
 use borrow.Author.Tests.{lt-ltb, le-ltb}
 use Rattle.loc_leaf.specs.declared.Kind.{Kind}
-use Rattle.loc_leaf.specs.declared.Answer.{Answer}
 use Rattle.loc_leaf.specs.Bytes.{Bytes}
 use Rattle.loc_leaf.specs.Answers.{refuse, _orElse_, answer}
 use Rattle.loc_leaf.specs.Area.{storeLength, fill}
 use Rattle.loc_leaf.proofs.Refusals.{orElse-first}
-use Rattle.loc_calls.specs.Areas.{Areas, count, areas}
-use Rattle.loc_calls.specs.Table.{Call, opening, truncate, table}
+use Rattle.loc_calls.specs.Areas.{count, areas}
+use Rattle.loc_calls.specs.Table.{opening, truncate, table}
 use Rattle.loc_calls.specs.Stores.{step, run, truncatePlaces, openRefusal, settled}
-use Rattle.loc_calls.specs.Calls.{Outcome, unlessRefused, tooSmall, unread, isOpening, refusal, places, value, areasAfter, call, createPlaces, create}
+use Rattle.loc_calls.specs.Calls.{unlessRefused, tooSmall, unread, isOpening, refusal, places, value, call, createPlaces, create}
 use Rattle.loc_calls.specs.Promises.{Stored}
 use Rattle.loc_calls.proofs.Outcomes.{refused, accepted, refusal-after}
 use Rattle.loc_store.specs.declared.Lengths.{Lengths}

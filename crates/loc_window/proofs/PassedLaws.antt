@@ -1,6 +1,6 @@
 -- Rows that are passed: the count that a search by halves gives, and one that goes on from rows passed before.
 -- Rows ascend throughout.
-use Prim.Native.Nat.{ℕ, zero, suc, _+_, _-_, _*_, _≤_, _<_}
+use Prim.Native.Nat.{ℕ, _+_, _-_, _*_, _≤_, _<_}
 use mathlib.Core.Path.{_≡_, refl, sym, ap, _∙_}
 use mathlib.Core.Logic.{⊎-elim}
 use mathlib.Core.Bool.{true}
@@ -14,7 +14,7 @@ use Rattle.loc_leaf.specs.Bytes.{Bytes, numberAt}
 use Rattle.loc_leaf.specs.Area.{pieces, fill}
 use Rattle.loc_leaf.specs.Kind.{rowWidth}
 use Rattle.loc_leaf.specs.Rows.{rowList, ascending, numberIn, rowsUpToByHalves}
-use Rattle.loc_leaf.proofs.RowLaws.{Parts, parts-same, by-halves-parts, rising, rows-are, rows-count, number-there, rows-room}
+use Rattle.loc_leaf.proofs.RowLaws.{parts-same, by-halves-parts, rising, rows-are, rows-count, number-there, rows-room}
 use Rattle.loc_window.specs.Window.{Passed, Rising}
 
 -- ---- the rows up to a number

@@ -2,7 +2,7 @@
 // The block's bytes are those of two words, lowest first.
 ghost use mathlib.Core.Path.{_≡_};
 ghost use mathlib.Core.List.{_++_};
-ghost use Prim.Native.Nat.{_+_, _*_, _<_, _≤_};
+ghost use Prim.Native.Nat.{_+_, _<_, _≤_};
 ghost use lib.ListN.{length, take, drop};
 ghost use Rattle.loc_leaf.specs.Bytes.{bytes};
 ghost use Rattle.loc_leaf.specs.Block.{firsts, seconds};

@@ -3,7 +3,7 @@
 ghost use mathlib.Core.Path.{_≡_};
 ghost use mathlib.Core.Bool.{true, false};
 ghost use mathlib.Core.List.{_++_};
-ghost use Prim.Native.Nat.{_+_, _*_, _/_, _^_, _<_, _≤_};
+ghost use Prim.Native.Nat.{_+_, _*_, _^_, _<_, _≤_};
 ghost use lib.ListN.{length};
 ghost use Rattle.loc_leaf.specs.declared.Kind.the-variants.{Paired};
 ghost use Rattle.loc_leaf.specs.Bytes.{bytes};
@@ -226,55 +226,4 @@ pub fn copy_slots(slots: &[u8], at: usize, n: usize, out: &mut [u8])
         out[k] = slots[at + k];
         k += 1;
     }
-}
-
-// All blocks of a window's first m records: for a caller that wants one window's sums and no more.
-pub fn window_sums(
-    kind: Kind,
-    bytes: &[u8],
-    m: usize,
-    mark: &[u64],
-    stamp: u64,
-    rows: &[u8],
-    count: usize,
-    first: u64,
-    body: &mut [u64],
-    span: &mut [u64],
-) -> Step
-    requires { ⌜ (m ≤ 8 * length (now mark)) × Ready kind first (now bytes) (now rows) count 0 m (sumsOf 0 0 (count + 1)) (now body) (now span) ⌝ }
-    ensures { λ r. ⌜ SlotStepped kind first (now (bytes .entry)) (now (rows .entry)) (now (mark .entry)) stamp (m / 8) m (now (body .exit)) (now (span .exit)) r ⌝ }
-{
-    let row = count + 1;
-    let mut s = Sums {
-        strides: 0,
-        spans: 0,
-        row,
-    };
-    let mut block: usize = 0;
-    while 8 * block < m {
-        let step = slot_step(
-            kind,
-            bytes,
-            block,
-            m,
-            mark,
-            stamp,
-            rows,
-            count,
-            first,
-            s,
-            body,
-            span,
-        );
-        match step {
-            Step::Next(t) => {
-                s = t;
-                block += 1;
-            }
-            Step::Lack => {
-                return Step::Lack;
-            }
-        }
-    }
-    Step::Next(s)
 }

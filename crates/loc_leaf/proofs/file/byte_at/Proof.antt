@@ -1,7 +1,5 @@
 -- `file::byte_at` meets its contract.
 use borrow.Author.Needs.{needs}
-use lib.ListN.{List·getD-eq-default}
-use mathlib.Core.Path.{sym}
 use Rattle.loc_leaf.proofs.NumberLaws.{byte-past}
 use Rattle.loc_leaf.proofs.file.byte_at.Statement.{statement}
 use Rattle.loc_leaf.proofs.file.byte_at.Tie as tie
