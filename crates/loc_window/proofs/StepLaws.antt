@@ -117,24 +117,9 @@ copied-next slots at n old new h w = record { front = front; rest = λ u g. getD
         (λ (l : u < n). getD-set-other new n u (byte (at + n) slots) 0 (λ e. omega arith) ∙ w .front u l)
         (eq-or-lt-of-le (omega arith))
 
--- ---- the walk over all blocks
+-- ---- after a step
 
 module _ (k : Kind) (f : ℕ) (bytes rows : Bytes) where
-  -- further on in the same walk
-  pub ready-on : (count n m : ℕ) (s₀ s : Sums) (body₀ span₀ body span : List ℕ) → n ≤ m → length body ≡ length body₀ → length span ≡ length span₀
-      → After k f bytes rows n s → Ready k f bytes rows count 0 m s₀ body₀ span₀ → Ready k f bytes rows count n m s body span
-  ready-on count n m s₀ s body₀ span₀ body span h eb es a r =
-      record {
-        order = h;
-        few = r .few;
-        copied = r .copied;
-        bodyRoom = omega (arith, r .bodyRoom);
-        spanRoom = omega (arith, r .spanRoom);
-        numbers = r .numbers;
-        rise = r .rise;
-        after = a;
-      }
-
   module _ (mark : List ℕ) (stamp block m : ℕ) (body span : List ℕ) (r : Step) (v : SlotStepped k f bytes rows mark stamp block m body span r) where
     pub slot-next : (s : Sums) → r ≡ Next s → After k f bytes rows (min (8 * (block + 1)) m) s × Stored k f bytes rows mark stamp (min (8 * (block + 1)) m) body span
     slot-next s e =
