@@ -1,9 +1,10 @@
 // The paired index: a body and spans for each record (create_loc.rs).
 // `places` of a `*_run` is how many of the call's places are stored; the other calls store all.
+ghost use mathlib.Core.Path.{_≡_};
 ghost use Rattle.loc_leaf.specs.declared.Kind.the-variants.{Paired};
 ghost use Rattle.loc_calls.specs.Areas.{areas};
 ghost use Rattle.loc_calls.specs.Table.{batch, opening, append, truncate, read};
-ghost use Rattle.loc_calls.specs.Calls.{call, create};
+ghost use Rattle.loc_calls.specs.Calls.{call, create, audit};
 ghost use Rattle.loc_calls.specs.Promises.{Stored, Read};
 use loc_leaf::Answer;
 use loc_leaf::Kind;
@@ -117,4 +118,11 @@ pub fn range_batch(
     ensures { λ r. ⌜ Read (call Paired 0 (read (now (wanted .entry)) (now (answers .entry))) (areas (now (slots .entry)) (now (rows .entry)) (now (checkpoints .entry)))) r (now (answers .exit)) ⌝ }
 {
     loc_read::read::range_batch(Kind::Paired, slots, rows, checkpoints, wanted, answers)
+}
+
+// Refuses by 1, 6. The value is 1 where the index is sound, else 0.
+pub fn audit(slots: &[u8], rows: &[u8], checkpoints: &[u8]) -> Answer
+    ensures { λ r. ⌜ r ≡ audit Paired (areas (now (slots .entry)) (now (rows .entry)) (now (checkpoints .entry))) .answer ⌝ }
+{
+    loc_audit::audit::audit_areas(Kind::Paired, slots, rows, checkpoints)
 }

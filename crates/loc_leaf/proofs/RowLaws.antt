@@ -3,7 +3,7 @@
 use Prim.Native.Nat.{ℕ, zero, suc, _+_, _-_, _*_, _/_, _≤_, _<_}
 use mathlib.Core.Path.{_≡_, refl, sym, ap, _∙_}
 use mathlib.Core.Logic.{_⊎_, inl, inr, ⊎-elim}
-use mathlib.Core.Bool.{Bool, true, false, cond, _&&_}
+use mathlib.Core.Bool.{Bool, true, false, cond}
 use mathlib.Core.List.{List, [], _∷_}
 use native.Mathlib.Nat.{mul-zero, mul-suc, mul-le-mul-left, add-zero, sub-zero, zero-div, add-comm, le-antisymm, eq-or-lt-of-le, le-of-suc-le-suc, not-suc-le-zero}
 use native.Mathlib.Omega.{arith}
@@ -75,51 +75,20 @@ rows-room k xs w n ew en = rw (ew, en) (room k)
     room Paired = omega (arith, counted-le xs)
     room Single = omega (arith, counted-le xs)
 
--- and so does each of them, and those after it
+-- and so does each of them
 pub row-room : (w n i len : ℕ) → w * n ≤ len → i < n → w * i + w ≤ len
 row-room w n i len h g = omega (arith, mul-suc w i, mul-le-mul-left {m = suc i} {n = n} w g)
 
-pub next-room : (w left at len : ℕ) → 12 ≤ w → 0 < left → w * left ≤ len - at → (at + w ≤ len) × (w * (left - 1) ≤ len - (at + w))
-next-room w zero at len wide h g = absurd (omega arith)
-next-room w (suc m) at len wide h g =
-    let e : suc m - 1 ≡ m = omega arith in
-    let s : w * suc m ≡ w * m + w = mul-suc w m in
-    (omega arith, rw e (omega arith))
-
--- ---- one row after the other
-
-next-rows : (w left at : ℕ) (xs : Bytes) → 0 < left → pieces w left (drop at xs) ≡ take w (drop at xs) ∷ pieces w (left - 1) (drop (at + w) xs)
-unfolding pieces
-next-rows w zero at xs h = absurd (omega arith)
-next-rows w (suc m) at xs h = let e : suc m - 1 ≡ m = omega arith in rw (e, drop-drop w at xs) refl
+-- ---- the published rows
 
 -- the rows that are published, by their width and number
 pub rows-are : (k : Kind) (xs : Bytes) (w n : ℕ) → w ≡ rowWidth k → n ≡ fill (rowWidth k) xs → rowList k xs ≡ pieces w n (drop 16 xs)
 unfolding rowList published
 rows-are k xs w n ew en = rw (ew, en) refl
 
-pub rows-end : (w left last : ℕ) (ys : Bytes) (whole : Bool) → whole ≡ ascending last (pieces w left ys) → left ≤ 0 → true ≡ whole
-unfolding ascending pieces
-rows-end w left last ys whole inv h = let z : left ≡ 0 = omega arith in sym (inv ∙ rw z refl)
-
 pub rows-count : (k : Kind) (xs : Bytes) → length (rowList k xs) ≡ fill (rowWidth k) xs
 unfolding rowList published
 rows-count k xs = length-pieces (rowWidth k) (fill (rowWidth k) xs) (drop 16 xs)
-
-module _ (w : ℕ) (wide : 12 ≤ w) (xs : Bytes) where
-  module _ (at left last : ℕ) (whole : Bool) (inv : whole ≡ ascending last (pieces w left (drop at xs))) where
-    module _ (h : 0 < left) (number : ℕ) (e : number ≡ numberAt 8 at xs) where
-      turned : whole ≡ ltb last number && ascending number (pieces w (left - 1) (drop (at + w) xs))
-      unfolding ascending numberAt
-      turned =
-          inv ∙ ap (ascending last) (next-rows w left at xs h)
-          ∙ ap (λ (n : ℕ). ltb last n && ascending n (pieces w (left - 1) (drop (at + w) xs))) (piece-number w (drop at xs) (omega arith) ∙ sym e)
-
-      pub rows-fall : number ≤ last → false ≡ whole
-      rows-fall g = sym (turned ∙ rw (le-ltb last number g) refl)
-
-      pub rows-turn : last < number → whole ≡ ascending number (pieces w (left - 1) (drop (at + w) xs))
-      rows-turn g = turned ∙ rw (lt-ltb last number g) refl
 
 -- ---- the last row, and a row by its place
 

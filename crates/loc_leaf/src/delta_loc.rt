@@ -7,7 +7,7 @@ ghost use Rattle.loc_leaf.specs.Bytes.{byte};
 ghost use Rattle.loc_leaf.specs.Area.{fill};
 ghost use Rattle.loc_leaf.specs.Kind.{rowWidth, checkpointWidth, windowOf, withinWindow};
 ghost use Rattle.loc_leaf.specs.Slot.{stridesFrom, below, slot, needsRow, inline, slotAt, checkpointRule};
-ghost use Rattle.loc_leaf.specs.Rows.{rowValue, rowList, ascending, lastNumber, rowsUpToByHalves, lookupByHalves, slotValueByHalves};
+ghost use Rattle.loc_leaf.specs.Rows.{rowValue, rowList, lastNumber, rowsUpToByHalves, lookupByHalves, slotValueByHalves};
 ghost use Rattle.loc_leaf.specs.Cut.{agrees, overflows, matches, cutFor};
 use crate::Answer;
 use crate::Kind;
@@ -289,26 +289,6 @@ pub fn row_count(kind: Kind, rows: &[u8]) -> usize
         Kind::Paired => (end - FILE_HEADER_LEN) / 16,
         Kind::Single => (end - FILE_HEADER_LEN) / 12,
     }
-}
-
-// Whether the rows are numbered from 1 on, each above the one before.
-pub fn rows_ascend(kind: Kind, rows: &[u8]) -> bool
-    ensures { λ r. ⌜ r ≡ ascending 0 (rowList kind (now (rows .entry))) ⌝ }
-{
-    let width = row_width(kind);
-    let mut left = row_count(kind, rows);
-    let mut at = FILE_HEADER_LEN;
-    let mut last: u64 = 0;
-    while 0 < left {
-        let number = u64_at(rows, at);
-        if number <= last {
-            return false;
-        }
-        last = number;
-        at += width;
-        left -= 1;
-    }
-    true
 }
 
 // The last row's number, 0 where there is none.

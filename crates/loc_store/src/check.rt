@@ -14,9 +14,9 @@ use crate::plan::rules;
 use loc_leaf::Kind;
 use loc_leaf::delta_loc::checkpoint_width;
 use loc_leaf::delta_loc::row_width;
-use loc_leaf::delta_loc::rows_ascend;
 use loc_leaf::file::FILE_HEADER_LEN;
 use loc_leaf::file::logical_len;
+use loc_rows::rows_ascend;
 
 // 1: an area under 16 bytes.
 pub fn too_small(slots: &[u8], rows: &[u8], checkpoints: &[u8]) -> bool

@@ -1,0 +1,5 @@
+pub mod StepLaws
+pub mod RowPassLaws
+pub mod PassLaws
+pub mod AuditLaws
+pub mod Examples

@@ -1,0 +1,324 @@
+-- The pass over the records against what loc_calls says of a sound index: how it begins, one record more, and how it ends.
+-- A record that lacks its row, a sum past 2^64 or a checkpoint that differs makes the whole index unsound.
+use Prim.Native.Nat.{ℕ, zero, suc, _+_, _-_, _*_, _/_, _%_, _^_, _≤_, _<_}
+use mathlib.Core.Path.{_≡_, refl, sym, ap, _∙_, subst}
+use mathlib.Core.Logic.{_⊎_, inl, inr, ⊎-elim}
+use mathlib.Core.Bool.{Bool, true, false, cond, _&&_, and-false}
+use mathlib.Core.List.{List}
+use native.Mathlib.Nat.{zero-add, add-zero, eq-or-lt-of-le, not-suc-le-zero, le-of-suc-le-suc}
+use native.Mathlib.Numerals.{add-one}
+use native.Mathlib.Omega.{arith}
+use lib.Dec.{ltb, eqb}
+use lib.ListN.{length, take}
+use borrow.Author.Tests.{lt-ltb, le-ltb, le-leb, ltb-true, ltb-false, eqb-true, eqb-false}
+use Rattle.loc_leaf.specs.declared.Kind.{Kind}
+use Rattle.loc_leaf.specs.declared.Kind.the-variants.{Paired, Single}
+use Rattle.loc_leaf.specs.declared.Value.{Value}
+use Rattle.loc_leaf.specs.declared.delta_loc.Lookup.{Lookup}
+use Rattle.loc_leaf.specs.declared.delta_loc.Lookup.the-variants.{Found, Missing}
+use Rattle.loc_leaf.specs.Bytes.{Bytes}
+use Rattle.loc_leaf.specs.Area.{counted, fill}
+use Rattle.loc_leaf.specs.Kind.{rowWidth, checkpointWidth}
+use Rattle.loc_leaf.specs.Slot.{needsRow, inline, slotAt}
+use Rattle.loc_leaf.specs.Rows.{rowValue, hasRow, rowList, lookup, slotValue, ascending}
+use Rattle.loc_leaf.proofs.Booleans.{is?}
+use Rattle.loc_calls.specs.Areas.{Areas, areas, count}
+use Rattle.loc_calls.specs.Reading.{sumAfter, allAfter, lookupAt, has, valueIn, valueAt, stridesAfter, spansAfter, windowEnd}
+use Rattle.loc_calls.specs.Audit.{bodySum, spanSum, bothEnds, checkpointSound, sound}
+use Rattle.loc_rows.specs.Reader.{rowAt, rowsFrom}
+use Rattle.loc_rows.proofs.ReaderLaws.{rows-lent}
+use Rattle.loc_audit.specs.declared.Ends.{Ends}
+use Rattle.loc_audit.specs.declared.Step.{Step}
+use Rattle.loc_audit.specs.declared.Step.the-variants.{Next, Unsound}
+use Rattle.loc_audit.specs.Pass.{nextPlace, slotSays, added, valued, byRow, recordStep, checkpointIs, checkpointHolds, tested, auditStep, Auditable}
+use Rattle.loc_audit.proofs.RowPassLaws.{Left, Turn, turn}
+
+-- ---- over the numbers from 1 on
+
+module _ (f : ℕ → Bool) where
+  all-next : (n : ℕ) → allAfter f 0 n ≡ true → f (suc n) ≡ true → allAfter f 0 (suc n) ≡ true
+  unfolding allAfter
+  all-next n a h = rw (a, zero-add (suc n), h) refl
+
+  -- one that fails
+  all-fails : (n i : ℕ) → i < n → f (suc i) ≡ false → allAfter f 0 n ≡ false
+  unfolding allAfter
+  all-fails zero i h e = absurd (not-suc-le-zero h)
+  all-fails (suc n) i h e =
+      ⊎-elim
+      (λ (q : i ≡ n). rw (zero-add (suc n)) (ap (λ (b : Bool). allAfter f 0 n && b) (ap (λ (j : ℕ). f (suc j)) (sym q) ∙ e) ∙ and-false (allAfter f 0 n)))
+      (λ (l : i < n). ap (λ (b : Bool). b && f (0 + suc n)) (all-fails n i l e))
+      (eq-or-lt-of-le (le-of-suc-le-suc h))
+
+sum-grows : (f : ℕ → ℕ) (m n d : ℕ) → sumAfter f m n ≤ sumAfter f m (n + d)
+unfolding sumAfter
+sum-grows f m n zero = rw (add-zero n) (omega arith)
+sum-grows f m n (suc d) = let q : n + suc d ≡ suc (n + d) = omega arith in rw q (omega (arith, sum-grows f m n d))
+
+-- ---- what makes an index unsound
+
+-- a conjunction of three with a part that fails
+fails-second : (x y z : Bool) → y ≡ false → (x && y && z) ≡ false
+fails-second true y z e = rw e refl
+fails-second false y z e = refl
+
+fails-third : (x y z : Bool) → z ≡ false → (x && y && z) ≡ false
+fails-third x y z e = rw e (and-false (x && y))
+
+module _ (k : Kind) (a : Areas) where
+  abbrev allHave : Bool
+  allHave = allAfter (λ i. has (lookupAt k a i)) 0 (count a)
+
+  abbrev allSound : Bool
+  allSound = allAfter (checkpointSound k a) 0 (fill (checkpointWidth k) (a .checkpoints))
+
+  abbrev bothBelow : Bool
+  bothBelow = bothEnds k (ltb (bodySum k a (count a)) (2 ^ 64)) (ltb (spanSum k a (count a)) (2 ^ 64))
+
+  body-grows : (n m : ℕ) → n ≤ m → bodySum k a n ≤ bodySum k a m
+  unfolding bodySum stridesAfter
+  body-grows n m h =
+      let q : n + (m - n) ≡ m = omega arith in
+      subst (λ (i : ℕ). 16 + 8 * sumAfter (λ j. (valueAt k a j) .strides) 0 n ≤ 16 + 8 * sumAfter (λ j. (valueAt k a j) .strides) 0 i) q
+      (omega (arith, sum-grows (λ j. (valueAt k a j) .strides) 0 n (m - n)))
+
+  span-grows : (n m : ℕ) → n ≤ m → spanSum k a n ≤ spanSum k a m
+  unfolding spanSum spansAfter
+  span-grows n m h =
+      let q : n + (m - n) ≡ m = omega arith in
+      subst (λ (i : ℕ). 16 + 8 * sumAfter (λ j. (valueAt k a j) .spans) 0 n ≤ 16 + 8 * sumAfter (λ j. (valueAt k a j) .spans) 0 i) q
+      (omega (arith, sum-grows (λ j. (valueAt k a j) .spans) 0 n (m - n)))
+
+  module _ (n : ℕ) (h : n < count a) where
+    unsound-row : lookupAt k a (suc n) ≡ Missing → sound k a ≡ false
+    unfolding sound has
+    unsound-row e = rw (all-fails (λ i. has (lookupAt k a i)) (count a) n h (ap has e)) refl
+
+    unsound-body : 2 ^ 64 ≤ bodySum k a (suc n) → sound k a ≡ false
+    unfolding sound
+    unsound-body g = fails-third allHave allSound bothBelow (ends k (ltb (bodySum k a (count a)) (2 ^ 64)) (ltb (spanSum k a (count a)) (2 ^ 64)) past)
+      where
+        past : ltb (bodySum k a (count a)) (2 ^ 64) ≡ false
+        past = le-ltb (bodySum k a (count a)) (2 ^ 64) (omega (arith, body-grows (suc n) (count a) h))
+
+        ends : (j : Kind) (x y : Bool) → x ≡ false → bothEnds j x y ≡ false
+        ends Paired x y e = rw e refl
+        ends Single x y e = e
+
+    unsound-span : k ≡ Paired → 2 ^ 64 ≤ spanSum k a (suc n) → sound k a ≡ false
+    unfolding sound
+    unsound-span p g = fails-third allHave allSound bothBelow (ends k p (ltb (bodySum k a (count a)) (2 ^ 64)) (ltb (spanSum k a (count a)) (2 ^ 64)) past)
+      where
+        past : ltb (spanSum k a (count a)) (2 ^ 64) ≡ false
+        past = le-ltb (spanSum k a (count a)) (2 ^ 64) (omega (arith, span-grows (suc n) (count a) h))
+
+        ends : (j : Kind) → j ≡ Paired → (x y : Bool) → y ≡ false → bothEnds j x y ≡ false
+        ends Paired q x y e = rw e (and-false x)
+        ends Single q x y e = cc
+
+  unsound-checkpoint : (w : ℕ) → w < fill (checkpointWidth k) (a .checkpoints) → checkpointSound k a (suc w) ≡ false → sound k a ≡ false
+  unfolding sound
+  unsound-checkpoint w h e = fails-second allHave allSound bothBelow (all-fails (checkpointSound k a) (fill (checkpointWidth k) (a .checkpoints)) w h e)
+
+-- ---- one record's value
+
+-- what a single record says has no spans
+single-spans : (a : Areas) (id : ℕ) (v : Value) → lookupAt Single a id ≡ Found v → v .spans ≡ 0
+unfolding lookupAt slotValue lookup rowValue inline
+single-spans a id v e = go (is? (needsRow Single (slotAt (a .slots) id))) (is? (hasRow id (rowList Single (a .rows))))
+  where
+    go : (needsRow Single (slotAt (a .slots) id) ≡ true) ⊎ (needsRow Single (slotAt (a .slots) id) ≡ false)
+        → (hasRow id (rowList Single (a .rows)) ≡ true) ⊎ (hasRow id (rowList Single (a .rows)) ≡ false) → v .spans ≡ 0
+    go (inl t) (inl u) = cc
+    go (inl t) (inr u) = cc
+    go (inr t) _ = cc
+
+module _ (k : Kind) (a : Areas) (n : ℕ) (v : Value) (e : lookupAt k a (suc n) ≡ Found v) where
+  body-more : bodySum k a (suc n) ≡ bodySum k a n + 8 * v .strides
+  unfolding bodySum stridesAfter sumAfter valueAt valueIn
+  body-more = rw (zero-add (suc n), e) (omega arith)
+
+  span-more : spanSum k a (suc n) ≡ spanSum k a n + 8 * v .spans
+  unfolding spanSum spansAfter sumAfter valueAt valueIn
+  span-more = rw (zero-add (suc n), e) (omega arith)
+
+-- ---- the pass
+
+-- n records are passed, and these are the ends
+pub record Passed (k : Kind) (a : Areas) (xs : Bytes) (n : ℕ) (e : Ends) : Type 0 where
+  pub complete : allAfter (λ i. has (lookupAt k a i)) 0 n ≡ true
+  pub checked : allAfter (checkpointSound k a) 0 (n / 1024) ≡ true
+  pub isBody : e .body ≡ bodySum k a n
+  pub isSpan : e .span ≡ spanSum k a n
+  pub bodyLow : e .body < 2 ^ 64
+  pub spanLow : e .span < 2 ^ 64
+  pub left : Left k (rowList k (a .rows)) xs n (e .next)
+
+-- a step to n records, or the index is unsound
+abbrev pub Stepped : Kind → Areas → Bytes → ℕ → Step → Type 0
+Stepped k a xs n (Next e) = Passed k a xs n e
+Stepped k a xs n Unsound = sound k a ≡ false
+
+pub pass-begins : (k : Kind) (a : Areas) (end : ℕ) → Auditable k a → end ≡ counted (a .rows) → end ≤ length (a .rows)
+    → Passed k a (take end (a .rows)) 0 (record { body = 16; span = 16; next = 16 })
+unfolding allAfter bodySum spanSum stridesAfter spansAfter sumAfter
+pass-begins k a end g e h =
+    record {
+      complete = refl;
+      checked = refl;
+      isBody = refl;
+      isSpan = refl;
+      bodyLow = omega arith;
+      spanLow = omega arith;
+      left = record { same = λ id l. ap (lookup k id) (sym lent); rise = ap (ascending 0) lent ∙ g .ascend };
+    }
+  where
+    lent : rowsFrom (rowWidth k) (take end (a .rows)) 16 ≡ rowList k (a .rows)
+    lent = rows-lent k (a .rows) (rowWidth k) end refl e h
+
+pub pass-ends : (k : Kind) (a : Areas) (xs : Bytes) (n : ℕ) (e : Ends) → Auditable k a → n ≡ count a → Passed k a xs n e → sound k a ≡ true
+unfolding sound
+pass-ends k a xs n e g q w =
+    rw (g .checkpointed, ← q, w .complete, w .checked, ← w .isBody, ← w .isSpan, lt-ltb (e .body) (2 ^ 64) (w .bodyLow), lt-ltb (e .span) (2 ^ 64) (w .spanLow)) (both k)
+  where
+    both : (j : Kind) → bothEnds j true true ≡ true
+    both Paired = refl
+    both Single = refl
+
+-- a checkpoint is sound where it says the ends after its record
+checkpoint-is : (k : Kind) (a : Areas) (w : ℕ) (e : Ends) → e .body ≡ bodySum k a (1024 * suc w) → e .span ≡ spanSum k a (1024 * suc w) → 1024 * suc w ≤ count a
+    → checkpointSound k a (suc w) ≡ checkpointIs k (a .checkpoints) (suc w) e
+unfolding checkpointSound windowEnd checkpointIs
+checkpoint-is k a w e eb es h = rw (le-leb (1024 * suc w) (count a) h, eb, es) refl
+
+module _ (k : Kind) (a : Areas) (xs : Bytes) (n : ℕ) (e : Ends) (g : Auditable k a) (h : n < count a) (w : Passed k a xs n e) where
+  abbrev rs : List Bytes
+  rs = rowList k (a .rows)
+
+  there : Turn k rs xs n (e .next) (w .left) (rowAt (rowWidth k) xs (e .next))
+  there = turn k rs xs n (e .next) (w .left)
+
+  abbrev next : ℕ
+  next = nextPlace (rowAt (rowWidth k) xs (e .next)) (suc n) (e .next)
+
+  -- the record's value is what loc_calls says
+  looks : recordStep k (a .slots) xs (suc n) e ≡ valued e next (lookupAt k a (suc n))
+  unfolding recordStep byRow slotSays lookupAt slotValue
+  looks = ap (λ (l : Lookup). valued e next (slotSays k (slotAt (a .slots) (suc n)) l)) (there .own)
+
+  module _ (v : Value) (found : lookupAt k a (suc n) ≡ Found v) where
+    abbrev after : Ends
+    after = record { body = e .body + 8 * v .strides; span = e .span + 8 * v .spans; next = next }
+
+    body-is : e .body + 8 * v .strides ≡ bodySum k a (suc n)
+    body-is = omega (arith, w .isBody, body-more k a n v found)
+
+    span-is : e .span + 8 * v .spans ≡ spanSum k a (suc n)
+    span-is = omega (arith, w .isSpan, span-more k a n v found)
+
+    -- the checkpoints up to this record
+    checked-on : checkpointHolds k (a .checkpoints) (suc n) after ≡ true → allAfter (checkpointSound k a) 0 (suc n / 1024) ≡ true
+    unfolding checkpointHolds
+    checked-on t = go (is? (eqb (suc n % 1024) 0))
+      where
+        go : (eqb (suc n % 1024) 0 ≡ true) ⊎ (eqb (suc n % 1024) 0 ≡ false) → allAfter (checkpointSound k a) 0 (suc n / 1024) ≡ true
+        go (inl z) =
+            let m : suc n % 1024 ≡ 0 = eqb-true (suc n % 1024) 0 z in
+            let q : suc n / 1024 ≡ suc (n / 1024) = omega arith in
+            let o : 1024 * suc (n / 1024) ≡ suc n = omega arith in
+            let u : checkpointIs k (a .checkpoints) (suc n / 1024) after ≡ true = rw z at t in
+            rw q
+            (all-next (checkpointSound k a) (n / 1024) (w .checked)
+            (checkpoint-is k a (n / 1024) after (rw o body-is) (rw o span-is) (omega arith) ∙ ap (λ (i : ℕ). checkpointIs k (a .checkpoints) i after) (sym q) ∙ u))
+        go (inr z) =
+            let m : suc n % 1024 ≡ 0 → ⊥ = eqb-false (suc n % 1024) 0 z in
+            let q : suc n / 1024 ≡ n / 1024 = omega arith in
+            rw q (w .checked)
+
+    -- one that differs
+    checked-not : checkpointHolds k (a .checkpoints) (suc n) after ≡ false → sound k a ≡ false
+    unfolding checkpointHolds
+    checked-not t = go (is? (eqb (suc n % 1024) 0))
+      where
+        go : (eqb (suc n % 1024) 0 ≡ true) ⊎ (eqb (suc n % 1024) 0 ≡ false) → sound k a ≡ false
+        go (inl z) =
+            let m : suc n % 1024 ≡ 0 = eqb-true (suc n % 1024) 0 z in
+            let q : suc n / 1024 ≡ suc (n / 1024) = omega arith in
+            let o : 1024 * suc (n / 1024) ≡ suc n = omega arith in
+            let u : checkpointIs k (a .checkpoints) (suc n / 1024) after ≡ false = rw z at t in
+            unsound-checkpoint k a (n / 1024) (omega (arith, g .checkpointed))
+            (checkpoint-is k a (n / 1024) after (rw o body-is) (rw o span-is) (omega arith) ∙ ap (λ (i : ℕ). checkpointIs k (a .checkpoints) i after) (sym q) ∙ u)
+        go (inr z) = let u : true ≡ false = rw z at t in cc
+
+    goes-on : e .body + 8 * v .strides < 2 ^ 64 → e .span + 8 * v .spans < 2 ^ 64 → Stepped k a xs (suc n) (tested k (a .checkpoints) (suc n) (Next after))
+    unfolding tested has
+    goes-on hb hs = go (is? (checkpointHolds k (a .checkpoints) (suc n) after))
+      where
+        go : (checkpointHolds k (a .checkpoints) (suc n) after ≡ true) ⊎ (checkpointHolds k (a .checkpoints) (suc n) after ≡ false)
+            → Stepped k a xs (suc n) (cond (checkpointHolds k (a .checkpoints) (suc n) after) (Next after) Unsound)
+        go (inl t) =
+            rw t
+            (record {
+              complete = all-next (λ i. has (lookupAt k a i)) n (w .complete) (ap has found);
+              checked = checked-on t;
+              isBody = body-is;
+              isSpan = span-is;
+              bodyLow = hb;
+              spanLow = hs;
+              left = there .left;
+            })
+        go (inr t) = rw t (checked-not t)
+
+    -- spans add up past 2^64 only where paired
+    spans-past : 2 ^ 64 ≤ e .span + 8 * v .spans → sound k a ≡ false
+    spans-past l = go k refl
+      where
+        go : (j : Kind) → k ≡ j → sound k a ≡ false
+        go Paired q = unsound-span k a n h q (omega (arith, span-is))
+        go Single q = absurd (omega (arith, w .spanLow, single-spans a (suc n) v (sym (ap (λ (j : Kind). lookupAt j a (suc n)) q) ∙ found)))
+
+    adds : Stepped k a xs (suc n) (tested k (a .checkpoints) (suc n) (added e v next))
+    unfolding added tested
+    adds = go (is? (ltb (e .body + 8 * v .strides) (2 ^ 64))) (is? (ltb (e .span + 8 * v .spans) (2 ^ 64)))
+      where
+        go : (ltb (e .body + 8 * v .strides) (2 ^ 64) ≡ true) ⊎ (ltb (e .body + 8 * v .strides) (2 ^ 64) ≡ false)
+            → (ltb (e .span + 8 * v .spans) (2 ^ 64) ≡ true) ⊎ (ltb (e .span + 8 * v .spans) (2 ^ 64) ≡ false)
+            → Stepped k a xs (suc n) (tested k (a .checkpoints) (suc n) (cond (ltb (e .body + 8 * v .strides) (2 ^ 64) && ltb (e .span + 8 * v .spans) (2 ^ 64)) (Next after) Unsound))
+        go (inl b) (inl s) = rw (b, s) (goes-on (ltb-true _ _ b) (ltb-true _ _ s))
+        go (inl b) (inr s) = rw (b, s) (spans-past (ltb-false _ _ s))
+        go (inr b) _ = rw b (unsound-body k a n h (omega (arith, ltb-false (e .body + 8 * v .strides) (2 ^ 64) b, body-is)))
+
+  pub pass-turn : Stepped k a xs (suc n) (auditStep k (a .slots) xs (a .checkpoints) (suc n) e)
+  unfolding auditStep tested valued
+  pass-turn = rw looks (go (lookupAt k a (suc n)) refl)
+    where
+      go : (l : Lookup) → lookupAt k a (suc n) ≡ l → Stepped k a xs (suc n) (tested k (a .checkpoints) (suc n) (valued e next l))
+      go (Found v) q = adds v q
+      go Missing q = unsound-row k a n h q
+
+-- ---- the loop
+
+-- the invariant: the records up to n are passed
+pub record Passing (k : Kind) (s r c xs : Bytes) (m n : ℕ) (e : Ends) : Type 0 where
+  pub inside : n ≤ m
+  pub passed : Passed k (areas s r c) xs n e
+
+module _ (k : Kind) (s r c : Bytes) (g : Auditable k (areas s r c)) (m : ℕ) (em : m ≡ fill 2 s) where
+  pub passing-begins : (end : ℕ) → end ≡ counted r → end ≤ length r → Passing k s r c (take end r) m 0 (record { body = 16; span = 16; next = 16 })
+  passing-begins end e h = record { inside = omega arith; passed = pass-begins k (areas s r c) end g e h }
+
+  module _ (xs : Bytes) (n : ℕ) (e : Ends) (w : Passing k s r c xs m n e) where
+    module _ (h : n < m) (q : Step) (eq : q ≡ auditStep k s xs c (n + 1) e) where
+      stepped : Stepped k (areas s r c) xs (n + 1) q
+      unfolding count
+      stepped = rw (eq, add-one n) (pass-turn k (areas s r c) xs n e g (omega arith) (w .passed))
+
+      pub passing-next : (t : Ends) → q ≡ Next t → Passing k s r c xs m (n + 1) t
+      passing-next t p = record { inside = omega arith; passed = subst (Stepped k (areas s r c) xs (n + 1)) p stepped }
+
+      pub passing-stops : q ≡ Unsound → false ≡ sound k (areas s r c)
+      passing-stops p = sym (subst (Stepped k (areas s r c) xs (n + 1)) p stepped)
+
+    pub passing-ends : m ≤ n → true ≡ sound k (areas s r c)
+    unfolding count
+    passing-ends h = sym (pass-ends k (areas s r c) xs n e g (omega (arith, w .inside)) (w .passed))

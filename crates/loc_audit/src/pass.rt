@@ -1,0 +1,164 @@
+// One record of the audit's pass: its row, its value, the ends after it, and its checkpoint.
+// The reader is carried along by its place, which is that of the first row numbered above the record before.
+ghost use mathlib.Core.Path.{_≡_};
+ghost use Prim.Native.Nat.{_^_, _<_};
+ghost use Rattle.loc_leaf.specs.Slot.{slotAt};
+ghost use Rattle.loc_audit.specs.Pass.{ownRow, nextPlace, slotSays, endAfter, added, recordStep, checkpointIs, checkpointHolds, auditStep};
+use crate::Ends;
+use crate::Step;
+use crate::Sum;
+use loc_leaf::Kind;
+use loc_leaf::Value;
+use loc_leaf::delta_loc::LOC_WINDOW;
+use loc_leaf::delta_loc::Lookup;
+use loc_leaf::delta_loc::inline_value;
+use loc_leaf::delta_loc::needs_row;
+use loc_leaf::delta_loc::row_width;
+use loc_leaf::delta_loc::slot_at;
+use loc_leaf::file::FILE_HEADER_LEN;
+use loc_leaf::file::u64_at;
+use loc_rows::Row;
+use loc_rows::step;
+
+// What the row at the reader's place says, if it is the row of record id.
+fn own_row(row: Row, id: u64) -> Lookup
+    ensures { λ r. ⌜ r ≡ ownRow row id ⌝ }
+{
+    match row {
+        Row::At {
+            number,
+            strides,
+            spans,
+            next: _,
+        } => {
+            if number == id {
+                return Lookup::Found(Value { strides, spans });
+            }
+            Lookup::Missing
+        }
+        Row::End => Lookup::Missing,
+    }
+}
+
+// The reader's place after record id: past its row, if it has one.
+fn next_place(row: Row, id: u64, at: usize) -> usize
+    ensures { λ r. ⌜ r ≡ nextPlace row id at ⌝ }
+{
+    match row {
+        Row::At {
+            number,
+            strides: _,
+            spans: _,
+            next,
+        } => {
+            if number == id {
+                return next;
+            }
+            at
+        }
+        Row::End => at,
+    }
+}
+
+// What slot and row say of record id, where this is what its row says.
+fn slot_says(kind: Kind, slots: &[u8], id: u64, own: Lookup) -> Lookup
+    ensures { λ r. ⌜ r ≡ slotSays kind (slotAt (now (slots .entry)) id) own ⌝ }
+{
+    let slot = slot_at(slots, id);
+    let low = slot[0];
+    let high = slot[1];
+    if needs_row(kind, low, high) {
+        return own;
+    }
+    Lookup::Found(inline_value(kind, low, high))
+}
+
+// An end after so many units of 8 bytes; a sum that would pass 2^64 is not made.
+fn end_after(end: u64, units: u32) -> Sum
+    ensures { λ r. ⌜ r ≡ endAfter end units ⌝ }
+{
+    let len = 8 * units as u64;
+    if 0xffff_ffff_ffff_ffff - end < len {
+        return Sum::Past;
+    }
+    Sum::Below(end + len)
+}
+
+// The ends after a record of this value.
+fn add(e: Ends, v: Value, next: usize) -> Step
+    ensures { λ r. ⌜ r ≡ added e v next ⌝ }
+{
+    let Sum::Below(body) = end_after(e.body, v.strides) else {
+        return Step::Unsound;
+    };
+    let Sum::Below(span) = end_after(e.span, v.spans) else {
+        return Step::Unsound;
+    };
+    Step::Next(Ends { body, span, next })
+}
+
+// The ends after record id.
+fn record_step(kind: Kind, slots: &[u8], rows: &[u8], id: u64, e: Ends) -> Step
+    ensures { λ r. ⌜ r ≡ recordStep kind (now (slots .entry)) (now (rows .entry)) id e ⌝ }
+{
+    let row = step(rows, e.next, row_width(kind));
+    let own = own_row(row, id);
+    let found = slot_says(kind, slots, id, own);
+    match found {
+        Lookup::Found(v) => add(e, v, next_place(row, id, e.next)),
+        Lookup::Missing => Step::Unsound,
+    }
+}
+
+// Whether checkpoint w, counted from 1, says these ends.
+fn checkpoint_is(kind: Kind, checkpoints: &[u8], w: u64, e: Ends) -> bool
+    requires { ⌜ (0 < w) × (w < 2 ^ 54) ⌝ }
+    ensures { λ r. ⌜ r ≡ checkpointIs kind (now (checkpoints .entry)) w e ⌝ }
+{
+    let before = (w - 1) as usize;
+    match kind {
+        Kind::Paired => {
+            let at = FILE_HEADER_LEN + 16 * before;
+            if u64_at(checkpoints, at) == e.body {
+                return u64_at(checkpoints, at + 8) == e.span;
+            }
+            false
+        }
+        Kind::Single => u64_at(checkpoints, FILE_HEADER_LEN + 8 * before) == e.body,
+    }
+}
+
+// Whether the checkpoint after record id, if one stands there, says these ends.
+fn checkpoint_holds(kind: Kind, checkpoints: &[u8], id: u64, e: Ends) -> bool
+    requires { ⌜ 0 < id ⌝ }
+    ensures { λ r. ⌜ r ≡ checkpointHolds kind (now (checkpoints .entry)) id e ⌝ }
+{
+    if id % LOC_WINDOW != 0 {
+        return true;
+    }
+    checkpoint_is(kind, checkpoints, id / LOC_WINDOW, e)
+}
+
+// The ends after record id, whose checkpoint says them if it has one.
+pub fn audit_step(
+    kind: Kind,
+    slots: &[u8],
+    rows: &[u8],
+    checkpoints: &[u8],
+    id: u64,
+    e: Ends,
+) -> Step
+    requires { ⌜ 0 < id ⌝ }
+    ensures { λ r. ⌜ r ≡ auditStep kind (now (slots .entry)) (now (rows .entry)) (now (checkpoints .entry)) id e ⌝ }
+{
+    let step = record_step(kind, slots, rows, id, e);
+    match step {
+        Step::Next(after) => {
+            if checkpoint_holds(kind, checkpoints, id, after) {
+                return Step::Next(after);
+            }
+            Step::Unsound
+        }
+        Step::Unsound => Step::Unsound,
+    }
+}

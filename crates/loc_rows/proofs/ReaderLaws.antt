@@ -1,0 +1,144 @@
+-- What the reader finds at a place, and the rows that are left from there on.
+-- A law for each way through a function: the results of its calls and its tests are premises.
+use Prim.Native.Nat.{ℕ, _+_, _-_, _*_, _/_, _≤_, _<_}
+use mathlib.Core.Path.{_≡_, refl, sym, ap, _∙_}
+use mathlib.Core.Bool.{Bool, true, false, _&&_}
+use mathlib.Core.List.{[], _∷_}
+use native.Mathlib.Nat.{div-eq-of-lt, div-eq-sub-div, div-mul-le-self, mul-comm}
+use native.Mathlib.Numerals.{add-one}
+use native.Mathlib.Omega.{arith}
+use native.Mathlib.Decide.{decLe}
+use lib.Dec.{ltb}
+use borrow.Author.Tests.{le-leb, lt-leb, lt-ltb, le-ltb}
+use lib.ListN.{length, take, drop, drop-of-length-le, length-take}
+use lib.Seq.{take-take, drop-drop, length-take-le}
+use Rattle.loc_leaf.specs.declared.Kind.{Kind}
+use Rattle.loc_leaf.specs.declared.Kind.the-variants.{Paired, Single}
+use Rattle.loc_leaf.specs.Bytes.{Bytes, number, numberAt}
+use Rattle.loc_leaf.specs.Area.{counted, pieces, fill, published}
+use Rattle.loc_leaf.specs.Kind.{rowWidth}
+use Rattle.loc_leaf.specs.Rows.{rowNumber, rowValue, rowList, ascending}
+use Rattle.loc_leaf.proofs.AreaLaws.{take-drop, pieces-cong}
+use Rattle.loc_rows.specs.Reader.{fields, rowAt, rowsFrom}
+use Rattle.loc_rows.specs.declared.Row.{Row}
+use Rattle.loc_rows.specs.declared.Row.the-variants.{At, End}
+
+-- ---- what stands at a place
+
+module _ (w : ℕ) (xs : Bytes) (at : ℕ) where
+  pub row-none : length xs < at + w → rowAt w xs at ≡ End
+  unfolding rowAt
+  row-none h = rw (lt-leb (at + w) (length xs) h) refl
+
+  pub row-whole : at + w ≤ length xs → rowAt w xs at ≡ fields (take w (drop at xs)) (at + w)
+  unfolding rowAt
+  row-whole h = rw (le-leb (at + w) (length xs) h) refl
+
+  pub row-short : length xs < w → End ≡ rowAt w xs at
+  row-short h = sym (row-none (omega arith))
+
+  pub row-past : w ≤ length xs → length xs - w < at → End ≡ rowAt w xs at
+  row-past g h = sym (row-none (omega arith))
+
+  pub row-there : w ≤ length xs → at ≤ length xs - w → (n s p next : ℕ) → next ≡ at + w → n ≡ numberAt 8 0 (take (next - at) (drop at xs))
+      → s ≡ numberAt 4 8 (take (next - at) (drop at xs)) → p ≡ numberAt 4 12 (take (next - at) (drop at xs)) → At n s p next ≡ rowAt w xs at
+  unfolding fields rowNumber
+  row-there g h n s p next e en es ep =
+      let z : next - at ≡ w = omega arith in
+      rw (en, es, ep, z, e) (sym (row-whole (omega arith)))
+
+-- a row that was read stands there whole, and this is its number and the next place
+pub record Stands (w : ℕ) (xs : Bytes) (at n s p next : ℕ) : Type 0 where
+  pub inside : at + w ≤ length xs
+  pub number : n ≡ rowNumber (take w (drop at xs))
+  pub strides : s ≡ numberAt 4 8 (take w (drop at xs))
+  pub spans : p ≡ numberAt 4 12 (take w (drop at xs))
+  pub after : next ≡ at + w
+
+zero-one : _≡_ {A = ℕ} 0 1 → ⊥
+zero-one z = omega arith
+
+module _ (w : ℕ) (xs : Bytes) (at : ℕ) (r : Row) (e : r ≡ rowAt w xs at) where
+  pub stands : {n s p next : ℕ} → r ≡ At n s p next → Stands w xs at n s p next
+  unfolding fields
+  stands {n} {s} {p} {next} q = go (decLe (at + w) (length xs))
+    where
+      go : Dec (at + w ≤ length xs) → Stands w xs at n s p next
+      go (yes h) = let i = row-whole w xs at h in record { inside = h; number = cc; strides = cc; spans = cc; after = cc }
+      go (no h) = let i = row-none w xs at (omega arith) in let z : _≡_ {A = ℕ} 0 1 = cc in absurd (zero-one z)
+
+  pub ends : r ≡ End → length xs < at + w
+  unfolding fields
+  ends q = go (decLe (at + w) (length xs))
+    where
+      go : Dec (at + w ≤ length xs) → length xs < at + w
+      go (yes h) = let i = row-whole w xs at h in let z : _≡_ {A = ℕ} 0 1 = cc in absurd (zero-one z)
+      go (no h) = omega arith
+
+-- the values of a row of a kind's width: one of 12 bytes has no spans
+pub row-value : (k : Kind) (xs : Bytes) → record { strides = numberAt 4 8 (take (rowWidth k) xs); spans = numberAt 4 12 (take (rowWidth k) xs) } ≡ rowValue k (take (rowWidth k) xs)
+unfolding rowValue numberAt number
+row-value Paired xs = refl
+row-value Single xs = rw (drop-of-length-le (take 12 xs) short) refl
+  where
+    short : length (take 12 xs) ≤ 12
+    short = omega (arith, length-take 12 xs)
+
+-- ---- the rows that are left
+
+module _ (w : ℕ) (xs : Bytes) (at : ℕ) (wide : 12 ≤ w) where
+  pub rows-more : at + w ≤ length xs → rowsFrom w xs at ≡ take w (drop at xs) ∷ rowsFrom w xs (at + w)
+  unfolding rowsFrom pieces
+  rows-more h =
+      rw (div-eq-sub-div {m = w} {n = length xs - at} (omega arith) (omega arith), add-one, drop-drop w at xs)
+      (ap (λ (n : ℕ). take w (drop at xs) ∷ pieces w (n / w) (drop (at + w) xs)) (omega arith))
+
+  pub rows-none : length xs < at + w → rowsFrom w xs at ≡ []
+  unfolding rowsFrom pieces
+  rows-none h = rw (div-eq-of-lt {n = length xs - at} {m = w} (omega arith)) refl
+
+-- the published part has the rows of the area
+pub rows-lent : (k : Kind) (xs : Bytes) (w end : ℕ) → w ≡ rowWidth k → end ≡ counted xs → end ≤ length xs → rowsFrom w (take end xs) 16 ≡ rowList k xs
+unfolding rowsFrom rowList published fill
+rows-lent k xs w end ew ee h =
+    rw (length-take-le end xs h, ← ew, ← ee)
+    (pieces-cong w ((end - 16) / w) (drop 16 (take end xs)) (drop 16 xs) same)
+  where
+    few : w * ((end - 16) / w) ≤ end - 16
+    few = rw (mul-comm w ((end - 16) / w)) (div-mul-le-self (end - 16) w)
+
+    same : take (w * ((end - 16) / w)) (drop 16 (take end xs)) ≡ take (w * ((end - 16) / w)) (drop 16 xs)
+    same = go (decLe 16 end)
+      where
+        go : Dec (16 ≤ end) → take (w * ((end - 16) / w)) (drop 16 (take end xs)) ≡ take (w * ((end - 16) / w)) (drop 16 xs)
+        go (yes g) =
+            take-drop (w * ((end - 16) / w)) 16 (take end xs)
+            ∙ ap (drop 16) (take-take (16 + w * ((end - 16) / w)) end xs (omega (arith, few)))
+            ∙ sym (take-drop (w * ((end - 16) / w)) 16 xs)
+        go (no g) = let z : w * ((end - 16) / w) ≡ 0 = omega (arith, few) in rw z refl
+
+-- ---- the order of the rows
+
+-- from here on the rows ascend as the whole does
+module _ (w : ℕ) (xs : Bytes) (at last : ℕ) (wide : 12 ≤ w) (whole : Bool) (inv : whole ≡ ascending last (rowsFrom w xs at)) (r : Row) (e : r ≡ rowAt w xs at) where
+  pub order-end : r ≡ End → true ≡ whole
+  unfolding ascending
+  order-end q = sym (inv ∙ rw (rows-none w xs at wide (ends w xs at r e q)) refl)
+
+  module _ (n s p next : ℕ) (q : r ≡ At n s p next) where
+    it : Stands w xs at n s p next
+    it = stands w xs at r e q
+
+    turned : whole ≡ (ltb last n && ascending n (rowsFrom w xs next))
+    unfolding ascending
+    turned = inv ∙ rw (rows-more w xs at wide (it .inside), ← it .number, ← it .after) refl
+
+    pub order-falls : n ≤ last → false ≡ whole
+    order-falls h = sym (turned ∙ rw (le-ltb last n h) refl)
+
+    pub order-next : last < n → whole ≡ ascending n (rowsFrom w xs next)
+    order-next h = turned ∙ rw (lt-ltb last n h) refl
+
+    -- the place goes up to the rows' end
+    pub order-less : length xs - next < length xs - at
+    order-less = omega (arith, it .inside, it .after)

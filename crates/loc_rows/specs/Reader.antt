@@ -1,0 +1,24 @@
+-- What stands at a place of the published rows (document 01: "one reader over the row area, carrying the next row's place").
+-- The width of a row is a number: 16 where paired, 12 where single.
+use Prim.Native.Nat.{ℕ, _+_, _-_, _/_}
+use mathlib.Core.Bool.{cond}
+use mathlib.Core.List.{List}
+use lib.Dec.{leb}
+use lib.ListN.{length, take, drop}
+use Rattle.loc_leaf.specs.Bytes.{Bytes, numberAt}
+use Rattle.loc_leaf.specs.Area.{pieces}
+use Rattle.loc_leaf.specs.Rows.{rowNumber}
+use Rattle.loc_rows.specs.declared.Row.{Row}
+use Rattle.loc_rows.specs.declared.Row.the-variants.{At, End}
+
+-- number (8 bytes), strides (4), span count (4, of which a row of 12 bytes has none), and the place of the next row
+unfoldable pub fields : Bytes → ℕ → Row
+fields r next = At (rowNumber r) (numberAt 4 8 r) (numberAt 4 12 r) next
+
+-- the row at a place, where a whole one stands there
+unfoldable pub rowAt : ℕ → Bytes → ℕ → Row
+rowAt w xs at = cond (leb (at + w) (length xs)) (fields (take w (drop at xs)) (at + w)) End
+
+-- the whole rows from a place on
+unfoldable pub rowsFrom : ℕ → Bytes → ℕ → List Bytes
+rowsFrom w xs at = pieces w ((length xs - at) / w) (drop at xs)
