@@ -1,0 +1,84 @@
+//! Runs cases on port and original. A difference is printed with the seed that repeats it, and the exit status is 1.
+//! compare [--seed N] [--histories N | --seconds N] [--one SEED]
+use host::judge::Folder;
+use host::tally::Tally;
+use host::{history, named, sweep};
+use std::time::{Duration, Instant};
+
+fn main() {
+    let mut seed = 1u64;
+    let mut histories = 20_000u64;
+    let mut seconds = None;
+    let mut one = None;
+    let words: Vec<String> = std::env::args().skip(1).collect();
+    for pair in words.chunks(2) {
+        let number = pair.get(1).and_then(|word| word.parse().ok()).unwrap_or_else(|| usage());
+        match pair[0].as_str() {
+            "--seed" => seed = number,
+            "--histories" => histories = number,
+            "--seconds" => seconds = Some(number),
+            "--one" => one = Some(number),
+            _ => usage(),
+        }
+    }
+    let folder = Folder::new();
+    let mut tally = Tally::default();
+    let begun = Instant::now();
+    let named = named::run(&folder, &mut tally, false, &mut |_, _| {})
+        .unwrap_or_else(|(message, steps)| differs(&folder, None, &message, &steps));
+    let worlds = match one {
+        Some(_) => 0,
+        None => {
+            sweep::run(&folder, &mut tally).unwrap_or_else(|(message, steps)| differs(&folder, None, &message, &steps))
+        }
+    };
+    let until = seconds.map(|s| begun + Duration::from_secs(s));
+    let mut i = 0;
+    loop {
+        let over = match until {
+            Some(end) => Instant::now() >= end,
+            None => i >= histories,
+        };
+        if over && one.is_none() {
+            break;
+        }
+        // seeds of different runs do not meet
+        let this = one.unwrap_or(seed.wrapping_mul(1_000_000_007).wrapping_add(i));
+        i += 1;
+        let ran = std::panic::catch_unwind(std::panic::AssertUnwindSafe(|| history::run(this, &folder, &mut tally)));
+        match ran {
+            Ok(Ok(())) => {}
+            Ok(Err((message, steps))) => differs(&folder, Some(this), &message, &steps),
+            Err(_) => differs(&folder, Some(this), "one side panicked", &[]),
+        }
+        if one.is_some() {
+            println!("history of seed {this}: no difference");
+            return;
+        }
+    }
+    print!("{}", tally.numbers());
+    let unseen = tally.unseen();
+    if !unseen.is_empty() {
+        println!("comparison with the original: never met: {}", unseen.join(", "));
+        drop(folder);
+        std::process::exit(1);
+    }
+    println!("{}; {named} named cases and {worlds} small worlds; {} s", tally.summary(), begun.elapsed().as_secs());
+}
+
+fn differs(folder: &Folder, seed: Option<u64>, message: &str, steps: &[String]) -> ! {
+    for step in steps {
+        println!("  {step}");
+    }
+    println!("DIFFERENCE: {message}");
+    if let Some(seed) = seed {
+        println!("repeat it: compare/run.sh --one {seed}   ({})", history::kind_of(seed).name());
+    }
+    let _ = std::fs::remove_dir_all(folder.dir());
+    std::process::exit(1);
+}
+
+fn usage() -> ! {
+    eprintln!("compare [--seed N] [--histories N | --seconds N] [--one SEED]");
+    std::process::exit(2);
+}

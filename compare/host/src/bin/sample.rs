@@ -1,0 +1,69 @@
+//! Writes a sample of the original's answers for the replay: sample FILE
+//! Named cases first, then histories of fixed seeds that fit the replay's arrays, up to a size.
+use host::areas::Kind;
+use host::judge::Folder;
+use host::tally::Tally;
+use host::tape::Tape;
+use host::{history, named};
+
+/// Bytes of the whole file, and of one history.
+const MOST: usize = 160_000;
+const MOST_OF_ONE: usize = 1_600;
+/// So often each number of the original's is to come, if the histories have it.
+const OF_EACH: u64 = 12;
+
+struct Sample {
+    bytes: Vec<u8>,
+    cases: u64,
+    answers: u64,
+    numbers: [[u64; 18]; 2],
+}
+
+impl Sample {
+    fn take(&mut self, kind: Kind, tape: &Tape) {
+        if tape.unfit || tape.calls == 0 || self.bytes.len() + tape.bytes.len() >= MOST {
+            return;
+        }
+        self.bytes.extend(&tape.bytes);
+        self.cases += 1;
+        self.answers += tape.calls;
+        self.numbers[kind as usize].iter_mut().zip(tape.numbers).for_each(|(sum, n)| *sum += n);
+    }
+
+    /// Whether the tape has a refusal that the sample lacks.
+    fn lacks(&self, kind: Kind, tape: &Tape) -> bool {
+        (1..18).any(|n| tape.numbers[n] > 0 && self.numbers[kind as usize][n] < OF_EACH)
+    }
+}
+
+fn main() {
+    let Some(file) = std::env::args().nth(1) else {
+        eprintln!("sample FILE");
+        std::process::exit(2);
+    };
+    let folder = Folder::new();
+    let mut tally = Tally::default();
+    let mut sample = Sample { bytes: Vec::new(), cases: 0, answers: 0, numbers: [[0; 18]; 2] };
+    named::run(&folder, &mut tally, true, &mut |kind, tape| sample.take(kind, &tape))
+        .expect("no difference in a named case");
+    // first the refusals, of which few come by chance, then whatever comes
+    for rare in [true, false] {
+        for seed in if rare { 1..6_000 } else { 6_000..9_000 } {
+            let tape =
+                history::taped(seed, &folder, &mut tally, Some(Tape::default())).expect("no difference in a history");
+            let tape = tape.expect("a tape was given");
+            let kind = history::kind_of(seed);
+            if tape.bytes.len() <= MOST_OF_ONE && (!rare || sample.lacks(kind, &tape)) {
+                sample.take(kind, &tape);
+            }
+        }
+    }
+    sample.bytes.push(0);
+    std::fs::write(&file, &sample.bytes).expect("the file can be written");
+    println!("{} cases, {} answers, {} bytes", sample.cases, sample.answers, sample.bytes.len());
+    for kind in [Kind::Paired, Kind::Single] {
+        let list = sample.numbers[kind as usize];
+        let list: Vec<String> = (0..18).filter(|&n| list[n] > 0).map(|n| format!("{n}: {}", list[n])).collect();
+        println!("numbers, {}: {}", kind.name(), list.join(", "));
+    }
+}

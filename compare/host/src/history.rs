@@ -1,0 +1,375 @@
+//! Random histories: a start, sound or damaged, and then calls of every sort, torn ones among them.
+//! A seed gives one history, the kind included.
+use crate::areas::{self, empty, Areas, Kind};
+use crate::damage::damage;
+use crate::judge::{Batch, Folder};
+use crate::pick::Pick;
+use crate::port;
+use crate::tally::Tally;
+use crate::tape::Tape;
+use crate::trial::{Call, Outcome, Trial};
+
+/// What a history's records are like.
+pub struct Style {
+    /// A value that needs a row comes once in so many records.
+    rows_one_in: u64,
+    /// A record that is refused comes once in so many batches.
+    wrong_one_in: u64,
+    /// Starts near 2^64, where sums saturate.
+    far: bool,
+    /// Many records in a row are alike.
+    alike: bool,
+}
+
+impl Style {
+    pub fn any(pick: &mut Pick) -> Style {
+        Style {
+            rows_one_in: pick.of(&[1, 2, 5, 20, 100, 1_000_000]),
+            wrong_one_in: pick.of(&[2, 6, 20]),
+            far: pick.one_in(6),
+            alike: pick.one_in(3),
+        }
+    }
+}
+
+pub fn kind_of(seed: u64) -> Kind {
+    if Pick::new(seed).word() >> 63 == 0 {
+        Kind::Paired
+    } else {
+        Kind::Single
+    }
+}
+
+pub fn run(seed: u64, folder: &Folder, tally: &mut Tally) -> Result<(), (String, Vec<String>)> {
+    taped(seed, folder, tally, None).map(|_| ())
+}
+
+/// The history of a seed; with a tape, what the original answers is written down.
+pub fn taped(
+    seed: u64,
+    folder: &Folder,
+    tally: &mut Tally,
+    tape: Option<Tape>,
+) -> Result<Option<Tape>, (String, Vec<String>)> {
+    let kind = kind_of(seed);
+    let mut pick = Pick::new(seed);
+    pick.word();
+    tally.histories += 1;
+    let mut trial = Trial::new(kind, folder, tally, empty([16, 16, 16]));
+    trial.tape = tape;
+    match go(&mut trial, &mut pick) {
+        Ok(()) => Ok(trial.tape),
+        Err(message) => Err((message, trial.steps)),
+    }
+}
+
+fn go(trial: &mut Trial, pick: &mut Pick) -> Outcome<()> {
+    let style = Style::any(pick);
+    let start = pick.below(10);
+    match start {
+        0 | 1 => {
+            trial.create()?;
+        }
+        2..=4 => {
+            let sizes = sizes(trial.kind, pick);
+            trial.restart(empty(sizes));
+            if !opened(trial, pick)? {
+                return Ok(());
+            }
+        }
+        _ => {
+            let mut areas = composed(trial.kind, &style, pick);
+            let times = pick.of(&[0, 1, 1, 1, 2, 3, 6]);
+            for _ in 0..times {
+                let what = damage(trial.kind, &mut areas, pick);
+                trial.steps.push(format!("damage: {what}"));
+            }
+            trial.restart(areas);
+            if !opened(trial, pick)? {
+                return Ok(());
+            }
+        }
+    }
+    for _ in 0..3 + pick.below(10) {
+        let call = any_call(trial, &style, pick);
+        trial.beyond = pick.size(4);
+        if pick.one_in(6) {
+            trial.audit()?;
+        }
+        if pick.one_in(5) && tearable(trial, &call) {
+            trial.torn(&call, pick)?;
+            if !opened(trial, pick)? {
+                return Err("an opening after a tear was refused".into());
+            }
+        } else if !trial.call(&call)? {
+            // the port refused with 13 and the original's files grew: both go on from before
+            let areas = trial.areas.clone();
+            trial.restart(areas);
+            if !opened(trial, pick)? {
+                return Err("an opening of settled areas was refused".into());
+            }
+        }
+    }
+    Ok(())
+}
+
+/// A reading stores nothing, and lists that differ are no call of the original's.
+fn tearable(trial: &Trial, call: &Call) -> bool {
+    match call {
+        Call::Append(b) => {
+            let n = b.starts.len();
+            trial.kind == Kind::Single || n == b.lens.len() && n == b.span_starts.len() && n == b.spans.len()
+        }
+        Call::Read(_) => false,
+        _ => true,
+    }
+}
+
+/// An opening, at times after a call without one or after torn openings.
+fn opened(trial: &mut Trial, pick: &mut Pick) -> Outcome<bool> {
+    if pick.one_in(4) {
+        let areas = trial.areas.clone();
+        let style = Style::any(pick);
+        let call = match pick.below(3) {
+            0 => Call::Append(batch(trial.kind, &style, pick, 3, (16, 16))),
+            1 => Call::Truncate(pick.below(3)),
+            _ => Call::Read(vec![1, pick.below(4)]),
+        };
+        if tearable(trial, &call) || matches!(call, Call::Read(_)) {
+            trial.cold(&call)?;
+            trial.restart(areas);
+        }
+    }
+    if pick.one_in(30) {
+        trial.small(pick.size(3), pick.size(16))?;
+    }
+    while pick.one_in(4) {
+        if !trial.torn(&Call::Open, pick)? {
+            break;
+        }
+    }
+    trial.call(&Call::Open)
+}
+
+fn any_call(trial: &Trial, style: &Style, pick: &mut Pick) -> Call {
+    let count = areas::count(&trial.areas);
+    match pick.below(20) {
+        0..=7 => {
+            let n = batch_size(trial, pick);
+            let ends = if pick.one_in(4) { far_or_any(style, pick) } else { ends(trial, count) };
+            Call::Append(batch(trial.kind, style, pick, n, ends))
+        }
+        8..=11 => Call::Truncate(truncation(count, pick)),
+        12..=18 => Call::Read(wanted(count, pick)),
+        _ => Call::Open,
+    }
+}
+
+fn far_or_any(style: &Style, pick: &mut Pick) -> (u64, u64) {
+    let far = |pick: &mut Pick| u64::MAX - pick.below(1 << 18);
+    if style.far {
+        (far(pick), far(pick))
+    } else {
+        (pick.word(), 8 * pick.below(1 << 40))
+    }
+}
+
+/// Where the last record ends, by the original's own answer; 16 where there is none.
+fn ends(trial: &Trial, count: u64) -> (u64, u64) {
+    match trial.judge.as_ref().map(|judge| judge.read(&[count])) {
+        Some(Ok((1, w))) if trial.kind == Kind::Paired => (w[1].saturating_add(w[2]), w[3].saturating_add(w[4])),
+        Some(Ok((1, w))) => (w[1].saturating_add(w[2]), 16),
+        _ => (16, 16),
+    }
+}
+
+fn batch_size(trial: &Trial, pick: &mut Pick) -> usize {
+    let count = areas::count(&trial.areas) as usize;
+    let room = (trial.areas[areas::SLOTS].len() - 16) / 2 - count;
+    let edge = 1024 - count % 1024;
+    let any = 13 + pick.size(300);
+    let small = 1 + pick.size(12);
+    let n = match pick.below(20) {
+        0 => 0,
+        1..=9 => small,
+        10..=12 => edge + pick.size(5) - 2.min(edge),
+        13 => edge + 1024,
+        14..=16 => any,
+        17 | 18 => room + pick.size(2),
+        _ => room.saturating_sub(1),
+    };
+    // mostly what there is room for, so that a history goes on
+    let n = if n > room && !pick.one_in(4) { pick.size(room + 1) } else { n };
+    n.min(3300)
+}
+
+/// Records in a row from the given starts; at times one that is refused.
+pub fn batch(kind: Kind, style: &Style, pick: &mut Pick, n: usize, ends: (u64, u64)) -> Batch {
+    let mut b = Batch::default();
+    let (mut start, mut span_start) = ends;
+    let (mut strides, mut spans) = record(kind, style, pick);
+    for _ in 0..n {
+        if !style.alike || pick.one_in(100) {
+            (strides, spans) = record(kind, style, pick);
+        }
+        let len = u64::from(strides) * 8;
+        b.starts.push(start);
+        b.lens.push(len);
+        start = start.saturating_add(len);
+        if kind == Kind::Paired {
+            b.span_starts.push(span_start);
+            b.spans.push(spans);
+            span_start = span_start.saturating_add(u64::from(spans) * 8);
+        }
+    }
+    while n > 0 && pick.one_in(style.wrong_one_in) {
+        wrong(kind, &mut b, pick);
+    }
+    b
+}
+
+fn record(kind: Kind, style: &Style, pick: &mut Pick) -> (u32, u32) {
+    let long = pick.one_in(style.rows_one_in);
+    let (most, least_long) = if kind == Kind::Paired { (255, 256) } else { (65_535, 65_536) };
+    let short =
+        |pick: &mut Pick| if pick.one_in(8) { pick.of(&[1, most]) } else { 1 + pick.below(u64::from(most)) as u32 };
+    let large = |pick: &mut Pick| match pick.below(4) {
+        0 => pick.of(&[least_long, least_long + 1, u32::MAX, u32::MAX - 1]),
+        1 => (pick.word() as u32).max(least_long),
+        _ => least_long + pick.below(1000) as u32,
+    };
+    if !long {
+        return (short(pick), short(pick));
+    }
+    match pick.below(3) {
+        0 => (large(pick), short(pick)),
+        1 if kind == Kind::Paired => (short(pick), large(pick)),
+        _ => (large(pick), large(pick)),
+    }
+}
+
+/// One thing in the batch that document 01 refuses, or that the next check has to tell apart.
+fn wrong(kind: Kind, b: &mut Batch, pick: &mut Pick) {
+    let n = b.starts.len();
+    if n == 0 {
+        return;
+    }
+    let i = pick.size(n).min(b.lens.len().saturating_sub(1));
+    if b.lens.is_empty() {
+        return;
+    }
+    match pick.below(8) {
+        0 if kind == Kind::Paired && i < b.spans.len() => b.spans[i] = 0,
+        1 => b.lens[i] = 0,
+        2 => b.lens[i] += pick.of(&[1, 2, 4, 7]),
+        3 => b.lens[i] = pick.of(&[1 << 35, (1 << 35) + 8, u64::MAX, u64::MAX - 7, 1 << 63, (1 << 35) - 8]),
+        4 => b.starts[i] = b.starts[i].wrapping_add(pick.of(&[1, 8, u64::MAX])),
+        5 if kind == Kind::Paired && i < b.span_starts.len() => {
+            b.span_starts[i] = b.span_starts[i].wrapping_add(pick.of(&[1, 8, u64::MAX]))
+        }
+        6 => match pick.below(4) {
+            0 => {
+                b.starts.pop();
+            }
+            1 => b.lens.push(8),
+            2 if kind == Kind::Paired => {
+                b.span_starts.pop();
+            }
+            3 if kind == Kind::Paired => b.spans.push(1),
+            _ => {
+                b.lens.pop();
+            }
+        },
+        _ => b.lens[i] = 8,
+    }
+}
+
+fn truncation(count: u64, pick: &mut Pick) -> u64 {
+    let any = pick.below(count + 1);
+    let near = count.saturating_sub(pick.below(4));
+    let window = 1024 * pick.below(count / 1024 + 1);
+    pick.of(&[
+        0,
+        count,
+        count,
+        near,
+        near,
+        near,
+        any,
+        any,
+        any,
+        count + 1,
+        u64::MAX,
+        window,
+        window + 1,
+        window.max(1) - 1,
+    ])
+}
+
+fn wanted(count: u64, pick: &mut Pick) -> Vec<u64> {
+    let n = pick.of(&[0, 1, 1, 2, 3, 5, 8, 20, 31, 32, 33, 40, 100, 1023, 1024, 1025]);
+    let n = if n > 100 && !pick.one_in(4) { 1 + n % 7 } else { n };
+    let narrow = pick.one_in(3);
+    let first = pick.below(count + 1);
+    let mut list: Vec<u64> = (0..n)
+        .map(|_| {
+            if narrow {
+                return first + pick.below(9);
+            }
+            match pick.below(16) {
+                0 => 0,
+                1 => count,
+                2 => count + 1,
+                3 => pick.of(&[u64::MAX, 1 << 63, 1 << 32, 1, 2]),
+                4 => (1024 * pick.below(count / 1024 + 2) + pick.below(3)).saturating_sub(1),
+                5 => 1 + pick.below(1024),
+                _ => 1 + pick.below(count),
+            }
+        })
+        .collect();
+    if pick.one_in(4) {
+        list.sort_unstable();
+    }
+    list
+}
+
+fn sizes(kind: Kind, pick: &mut Pick) -> [usize; 3] {
+    let widths = kind.widths();
+    let records = pick.of(&[0, 1, 7, 40, 300, 1023, 1024, 1025, 1100, 2047, 2049, 2300, 3100]);
+    let rows = pick.of(&[0, 1, 2, 5, 40, 400, records]);
+    let checkpoints = pick.of(&[0, 1, 2, 3, 4, 4, 4]);
+    let ragged = |pick: &mut Pick| if pick.one_in(4) { pick.size(16) } else { 0 };
+    [
+        16 + widths[0] * records + ragged(pick) % 2,
+        16 + widths[1] * rows + ragged(pick),
+        16 + widths[2] * checkpoints + ragged(pick),
+    ]
+}
+
+/// A sound index of some size, with room behind what it publishes. The port's append makes it: a way to inputs, no judge.
+pub fn composed(kind: Kind, style: &Style, pick: &mut Pick) -> Areas {
+    let widths = kind.widths();
+    let any = pick.size(60);
+    let records =
+        pick.of(&[any, any, any, 0, 1, 7, 8, 9, 300, 1022, 1023, 1024, 1025, 1030, 2047, 2048, 2049, 3072, 3080]);
+    let steady = Style { wrong_one_in: u64::MAX, ..*style };
+    let ends = if style.far { far_or_any(style, pick) } else { (16, 16) };
+    let b = batch(kind, &steady, pick, records, ends);
+    let rooms = [pick.size(40), pick.size(6), pick.size(3)];
+    let mut areas = empty([
+        16 + widths[0] * (records + rooms[0]),
+        16 + widths[1] * (records + rooms[1]),
+        16 + widths[2] * (4 + rooms[2]),
+    ]);
+    let answer = port::append(kind, &mut areas, &b);
+    assert_eq!(answer, (0, records as u64), "a sound batch on empty areas");
+    for place in 0..3 {
+        let end = areas::counted(&areas[place]) as usize;
+        areas[place].truncate((end + widths[place] * rooms[place]).max(16));
+    }
+    if records > 0 && pick.one_in(4) {
+        // a longer history: some records appended and withdrawn again stay as bytes past the ends
+        port::truncate(kind, &mut areas, pick.below(records as u64 + 1));
+    }
+    areas
+}

@@ -1,0 +1,16 @@
+//! Port and original side by side: the same areas, the same calls, every answer held against the other's.
+//! `compare` runs cases, `sample` writes the answers that are replayed, `bench` measures.
+
+pub mod areas;
+pub mod audit;
+pub mod damage;
+pub mod history;
+pub mod judge;
+pub mod named;
+pub mod pick;
+pub mod port;
+pub mod sweep;
+pub mod tally;
+pub mod tape;
+pub mod tear;
+pub mod trial;

@@ -1,0 +1,117 @@
+//! How much was compared: calls of each kind, and how often each number came.
+//! A run in which some number never came is reported as incomplete.
+use crate::areas::Kind;
+
+#[derive(Clone, Copy, Debug, PartialEq, Eq)]
+pub enum What {
+    Create,
+    Open,
+    Append,
+    Truncate,
+    Read,
+    TornOpen,
+    TornAppend,
+    TornTruncate,
+}
+
+pub const WHATS: [(What, &str); 8] = [
+    (What::Create, "create"),
+    (What::Open, "open"),
+    (What::Append, "append"),
+    (What::Truncate, "truncate"),
+    (What::Read, "read"),
+    (What::TornOpen, "torn open"),
+    (What::TornAppend, "torn append"),
+    (What::TornTruncate, "torn truncate"),
+];
+
+#[derive(Default)]
+pub struct Tally {
+    calls: [[u64; 8]; 2],
+    numbers: [[u64; 18]; 2],
+    /// Openings that stored a length.
+    pub repairs: u64,
+    /// States that a cut of the original left, all compared.
+    pub states: u64,
+    pub histories: u64,
+    /// Audits: of an index that is not sound, and of one that is.
+    pub audits: [u64; 2],
+}
+
+/// Refusals that document 01 adds: the port's alone, so there is nothing to compare but that they come where it says.
+pub fn added(kind: Kind, number: u64) -> bool {
+    matches!(number, 1 | 6 | 13 | 15 | 16) || kind == Kind::Paired && number == 7
+}
+
+impl Tally {
+    pub fn note(&mut self, kind: Kind, what: What, number: u64) {
+        if !added(kind, number) {
+            self.calls[kind as usize][what as usize] += 1;
+        }
+        self.numbers[kind as usize][number as usize] += 1;
+    }
+
+    pub fn compared(&self) -> u64 {
+        self.calls.iter().flatten().sum()
+    }
+
+    fn all(&self) -> u64 {
+        self.numbers.iter().flatten().sum()
+    }
+
+    /// Numbers and calls that this comparison is meant to meet and has not.
+    pub fn unseen(&self) -> Vec<String> {
+        let mut list = Vec::new();
+        for kind in [Kind::Paired, Kind::Single] {
+            for number in 0..18 {
+                let never = kind == Kind::Single && (number == 8 || number == 12);
+                if !never && self.numbers[kind as usize][number] == 0 {
+                    list.push(format!("{} {number}", kind.name()));
+                }
+            }
+            for (what, name) in WHATS {
+                if self.calls[kind as usize][what as usize] == 0 {
+                    list.push(format!("{} {name}", kind.name()));
+                }
+            }
+        }
+        list
+    }
+
+    /// How often each number came.
+    pub fn numbers(&self) -> String {
+        let mut text = String::new();
+        for kind in [Kind::Paired, Kind::Single] {
+            let list: Vec<String> = (0..18)
+                .filter(|&n| self.numbers[kind as usize][n] > 0)
+                .map(|n| format!("{n}: {}", self.numbers[kind as usize][n]))
+                .collect();
+            text += &format!("numbers, {}: {}\n", kind.name(), list.join(", "));
+        }
+        text
+    }
+
+    pub fn summary(&self) -> String {
+        let of = |kind: Kind| {
+            let list: Vec<String> = WHATS
+                .iter()
+                .map(|(what, name)| format!("{name} {}", self.calls[kind as usize][*what as usize]))
+                .collect();
+            format!("{}: {}", kind.name(), list.join(", "))
+        };
+        let audits = match self.audits {
+            [0, 0] => String::new(),
+            [not, sound] => format!(", {sound} audits of sound and {not} of unsound areas"),
+        };
+        format!(
+            "comparison with the original: {} calls in {} histories agree ({}; {}), with {} torn states and {} openings that stored{audits}; {} refusals that only the port has",
+            self.compared(),
+            self.histories,
+            of(Kind::Paired),
+            of(Kind::Single),
+            self.states,
+            self.repairs,
+            self.all() - self.compared()
+        )
+    }
+}

@@ -1,0 +1,16 @@
+-- `loc_replay::bytes::fitting` meets its contract.
+use mathlib.Core.Path.{sym}
+use native.Mathlib.Omega.{arith}
+use lib.Seq.{length-take-le}
+use borrow.Author.Needs.{needs}
+use Rattle.loc_replay.proofs.bytes.fitting.Statement.{statement}
+use Rattle.loc_replay.proofs.bytes.fitting.Tie as tie
+
+least-requires : tie.Need-least-requires
+least-requires c κs = search needs
+
+returns : tie.Need-returns
+returns c = (omega arith, sym (length-take-le _ _ (omega arith)))
+
+pub fitting-spec : {M : Type 1} → statement M
+fitting-spec = tie.close (tie.spec least-requires returns)

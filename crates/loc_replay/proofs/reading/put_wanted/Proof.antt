@@ -1,0 +1,58 @@
+-- `loc_replay::reading::put_wanted` meets its contract.
+use Prim.Native.Nat.{_-_, _≤_}
+use borrow.Author.Needs.{needs}
+use Rattle.loc_replay.proofs.reading.put_wanted.Statement.{statement}
+use Rattle.loc_replay.proofs.reading.put_wanted.Tie as tie
+
+abbrev Inv-loop : tie.InvT-loop
+Inv-loop «data» at n wanted₀ i₀ wanted i = i ≤ n
+
+abbrev μ-loop : tie.MeasureT-loop
+μ-loop «data» at n wanted₀ i₀ wanted i = n - i
+
+loop-holds : tie.Need-loop-holds Inv-loop μ-loop
+loop-holds c = search needs
+
+eight-times-requires : tie.Need-eight-times-requires Inv-loop μ-loop
+eight-times-requires c κs = search needs
+
+plus-requires : tie.Need-plus-requires Inv-loop μ-loop
+plus-requires c κs = search needs
+
+u64-at-requires : tie.Need-u64-at-requires Inv-loop μ-loop
+u64-at-requires c κs = search needs
+
+mul-wanted : tie.Need-mul-wanted Inv-loop μ-loop
+mul-wanted c = search needs
+
+element-write-wanted : tie.Need-element-write-wanted Inv-loop μ-loop
+element-write-wanted c = search needs
+
+add-i : tie.Need-add-i Inv-loop μ-loop
+add-i c = search needs
+
+loop-less : tie.Need-loop-less Inv-loop μ-loop
+loop-less c = search needs
+
+loop-again : tie.Need-loop-again Inv-loop μ-loop
+loop-again c = search needs
+
+returns : tie.Need-returns Inv-loop μ-loop
+returns c = search needs
+
+pub put-wanted-spec : {M : Type 1} → statement M
+put-wanted-spec =
+    tie.close
+    (tie.spec
+    Inv-loop
+    μ-loop
+    loop-holds
+    eight-times-requires
+    plus-requires
+    u64-at-requires
+    mul-wanted
+    element-write-wanted
+    add-i
+    loop-less
+    loop-again
+    returns)

@@ -1,0 +1,90 @@
+// Bytes and sums on the tape and in areas. What lies past an end reads as 0 and is not stored.
+// The tape has at most 200,000 bytes, so `plus` never meets its limit.
+ghost use mathlib.Core.Path.{_≡_};
+ghost use Prim.Native.Nat.{min};
+ghost use Rattle.io.specs.Counts.{Counts};
+use loc_leaf::file::byte_at;
+use loc_leaf::file::u16_at;
+
+pub fn plus(a: usize, b: usize) -> usize {
+    if a < 0x100_0000 {
+        if b < 0x100_0000 {
+            return a + b;
+        }
+    }
+    0
+}
+
+pub fn eight_times(n: usize) -> usize {
+    if n < 0x1_0000 { 8 * n } else { 0 }
+}
+
+pub fn more(n: u64) -> u64 {
+    if n < 0xffff_ffff { n + 1 } else { n }
+}
+
+pub fn half(data: &[u8], at: usize) -> usize {
+    u16_at(data, at) as usize
+}
+
+pub fn least(a: usize, b: usize) -> usize
+    ensures { λ r. ⌜ r ≡ min a b ⌝ }
+{
+    if a < b { a } else { b }
+}
+
+fn fitting(size: usize, bytes: &[u8]) -> usize
+    ensures { λ r. ⌜ Counts r (now (bytes .entry)) ⌝ }
+{
+    least(size, bytes.len())
+}
+
+// The first bytes, as an area that a call is lent.
+pub fn part(bytes: &mut [u8], size: usize) -> &mut [u8] {
+    let n = fitting(size, bytes);
+    &mut bytes[..n]
+}
+
+// Whether n bytes from a place on are the same.
+pub fn same(a: &[u8], b: &[u8], at: usize, n: usize) -> bool {
+    let mut i = 0;
+    while i < n {
+        let place = plus(at, i);
+        if byte_at(a, place) != byte_at(b, place) {
+            return false;
+        }
+        i += 1;
+    }
+    true
+}
+
+// n bytes from one place to another.
+pub fn copy(from: &[u8], start: usize, n: usize, to: &mut [u8; 6400], at: usize) {
+    let mut i = 0;
+    while i < n {
+        let place = plus(at, i);
+        if place < 6400 {
+            to[place] = byte_at(from, plus(start, i));
+        }
+        i += 1;
+    }
+}
+
+// n bytes from a place on, in an array of their own.
+pub fn copied(from: &[u8], start: usize, n: usize) -> [u8; 6400] {
+    let mut to = [0u8; 6400];
+    copy(from, start, n, &mut to, 0);
+    to
+}
+
+// Two bytes in turn, n of them.
+pub fn fill(to: &mut [u8; 6400], at: usize, n: usize, first: u8, second: u8) {
+    let mut i = 0;
+    while i < n {
+        let place = plus(at, i);
+        if place < 6400 {
+            to[place] = if i % 2 == 0 { first } else { second };
+        }
+        i += 1;
+    }
+}

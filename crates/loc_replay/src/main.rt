@@ -1,0 +1,34 @@
+// Replays a sample of the original's answers, the file `answers`, which compare/sample.sh writes with the original itself.
+// Prints how many answers were replayed, and in how many a number, a value, an answer word or a byte of an area differs.
+mod batch;
+mod bytes;
+mod calls;
+mod lists;
+mod reading;
+mod tape;
+
+use libc::STDOUT_FILENO;
+ghost use Rattle.io.specs.Counts.{Counts};
+
+// The file's first bytes, as many as buf holds: how many. A file that is missing counts as empty.
+fn load(path: &[u8], buf: &mut [u8]) -> usize
+    ensures { λ r. ⌜ Counts r (now (buf .exit)) ⌝ }
+{
+    let fd = os::open_read(path);
+    if fd < 0 {
+        return 0;
+    }
+    let n = io::read_full(fd, buf);
+    libc::close(fd);
+    n
+}
+
+fn main() {
+    let mut data = [0u8; 200000];
+    let n = load(b"answers", &mut data);
+    let end = tape::replay(&data[..n]);
+    io::print_decimal(STDOUT_FILENO, end.answers);
+    io::write_all(STDOUT_FILENO, b" answers of the original replayed, ");
+    io::print_decimal(STDOUT_FILENO, end.differ);
+    io::write_all(STDOUT_FILENO, b" differ\n");
+}
