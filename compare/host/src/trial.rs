@@ -272,10 +272,10 @@ impl<'a> Trial<'a> {
             Call::Truncate(count) => port::truncate(self.kind, &mut mine, *count),
             Call::Read(wanted) => port::read(self.kind, &mine, wanted, &mut buffer),
         };
+        self.not_the_originals("without an opening", answer, 6, &mine)?;
         if buffer != [GARBAGE; 8] {
             return Err("read: the port stored answers and gave 6".into());
         }
-        self.not_the_originals("without an opening", answer, 6, &mine)?;
         #[cfg(audit)]
         self.not_the_originals("audit without an opening", port::audit(self.kind, &mine), 6, &mine)?;
         self.tally.note(self.kind, call.what(), 6);
