@@ -14,8 +14,9 @@ use Rattle.loc_leaf.specs.declared.Kind.the-variants.{Paired, Single}
 use Rattle.loc_leaf.specs.Kind.{withinWindow}
 use Rattle.loc_calls.specs.Table.{wordWidth}
 use Rattle.loc_calls.specs.Reading.{words}
-use Rattle.loc_order.specs.Keys.{placeOf, wantedBy}
-use Rattle.loc_answer.specs.Words.{Has, Put, Summed, sumWords, RunSafe, Agrees, RunPut}
+use Rattle.loc_order.specs.Keys.{places, placeOf, wantedBy}
+use Rattle.loc_order.proofs.KeyLaws.{places-at}
+use Rattle.loc_answer.specs.Words.{Has, Put, Summed, sumWords, RunSafe, Agrees, RunPut, SamePast}
 use Rattle.loc_answer.proofs.AnswerLaws.{place-below, put-keeps}
 
 -- ---- words stored one by one
@@ -117,6 +118,19 @@ module _ (k : Kind) (ids keys : List ℕ) (from end : ℕ) (body span out : List
 
   pub run-room : (mid : List ℕ) → length mid ≡ length out → wordWidth k * placeOf (getD keys t 0) + wordWidth k ≤ length mid
   run-room mid e = omega (arith, r .room, place-below (wordWidth k) (placeOf (getD keys t 0)) (length ids) run-place)
+
+-- ---- the answers of a whole list
+
+-- a turn asks its place's words, which lie before the end of all, and keeps what is past them
+pub put-past : (w p n : ℕ) (old mid new ws : List ℕ) → p < n → SamePast (w * n) old mid → Put w mid p ws new → SamePast (w * n) old new
+put-past w p n old mid new ws h s u y g = u .above y (omega (arith, place-below w p n h)) ∙ s y g
+
+-- place p of a list that is taken in its own order
+pub own-place : (n p : ℕ) → n ≤ 1024 → p < n → p ≡ placeOf (getD (places 0 n) p 0)
+own-place n p h g = sym (places-at n p h g)
+
+pub own-wanted : (ids : List ℕ) (n p j : ℕ) → n ≤ 1024 → p < n → j ≡ withinWindow (getD ids p 0) → j ≡ withinWindow (wantedBy ids (places 0 n) p)
+own-wanted ids n p j h g e = e ∙ ap (λ (q : ℕ). withinWindow (getD ids q 0)) (own-place n p h g)
 
 -- ---- a copy of words
 

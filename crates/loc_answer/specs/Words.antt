@@ -44,6 +44,10 @@ pub record RunSafe (k : Kind) (ids keys : List ℕ) (from end : ℕ) (body span 
   pub place : (t : ℕ) → from ≤ t → t < end → placeOf (getD keys t 0) < length ids
   pub summed : (t : ℕ) → from ≤ t → t < end → Summed body span (withinWindow (wantedBy ids keys t))
 
+-- no number of a list is 0
+abbrev pub AllSome : List ℕ → Type 0
+AllSome ids = (p : ℕ) → p < length ids → 0 < getD ids p 0
+
 -- W says which words are right at each place, and the sums give those of the run
 unfoldable pub Agrees : Kind → List ℕ → List ℕ → ℕ → ℕ → ℕ → ℕ → List ℕ → List ℕ → (ℕ → List ℕ) → Type 0
 Agrees k ids keys from end b s body span W =
@@ -55,3 +59,7 @@ pub record RunPut (k : Kind) (ids keys : List ℕ) (from end b s : ℕ) (body sp
   pub put : (W : ℕ → List ℕ) → Agrees k ids keys from end b s body span W
       → (t : ℕ) → from ≤ t → t < end → Has (wordWidth k) new (placeOf (getD keys t 0)) (W (placeOf (getD keys t 0)))
   pub kept : (W : ℕ → List ℕ) → Agrees k ids keys from end b s body span W → (p : ℕ) → Has (wordWidth k) old p (W p) → Has (wordWidth k) new p (W p)
+
+-- the words from x on are as they were
+abbrev pub SamePast : ℕ → List ℕ → List ℕ → Type 0
+SamePast x old new = (y : ℕ) → x ≤ y → getD new y 0 ≡ getD old y 0

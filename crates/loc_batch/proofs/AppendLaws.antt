@@ -3,14 +3,13 @@
 use Prim.Native.Nat.{ℕ, zero, suc, _+_, _-_, _≤_, min}
 use mathlib.Core.Path.{_≡_, refl, sym, _∙_}
 use mathlib.Core.Bool.{Bool, true, false, cond}
-use mathlib.Core.List.{List, [], _∷_, _++_, append-nil, flatten}
-use native.Mathlib.Nat.{add-zero, add-suc}
+use mathlib.Core.List.{List, append-nil, flatten}
+use native.Mathlib.Nat.{add-zero}
 use native.Mathlib.Numerals.{add-one}
 use native.Mathlib.Omega.{arith}
 use native.Mathlib.Decide.{decLe}
 use lib.Dec.{eqb}
-use lib.ListN.{length, take, drop, set, getD, take-append-drop, length-drop, drop-of-length-le}
-use lib.Seq.{take-set-le, drop-set-add}
+use lib.ListN.{length, take, drop, getD, length-drop, drop-of-length-le}
 use borrow.Rule.Slice.PartMut.{putMid}
 use borrow.Author.Tests.{eq-eqb, ne-eqb}
 use Rattle.loc_leaf.specs.declared.Kind.{Kind}
@@ -21,19 +20,12 @@ use Rattle.loc_calls.specs.Areas.{Areas, each, areas}
 use Rattle.loc_calls.specs.Table.{Entry}
 use Rattle.loc_calls.specs.Stores.{Place, keep, slotLength, rowLength, checkpointLength, write, step, run, gather, slotOf, rowOf, checkpointOf, staged}
 use Rattle.loc_calls.proofs.Settled.{run-next, run-all}
+use Rattle.loc_batch.proofs.StageLaws.{store-tail}
 use Rattle.loc_batch.specs.Lists.{Room, Staged}
 use Rattle.loc_batch.specs.Plans.{growing, grown, stagePlaces, RoomPast}
 use Rattle.loc_batch.specs.declared.Stage.{Stage}
 
 -- ---- a part that was lent
-
-store-tail : (xs : Bytes) (a j : ℕ) (vs : Bytes) → take a xs ++ store j vs (drop a xs) ≡ store (a + j) vs xs
-unfolding store
-store-tail xs a j [] = take-append-drop a xs
-store-tail xs a j (v ∷ vs) =
-    let h : a ≤ a + j = omega arith in
-    let p : take a (set xs (a + j) v) ≡ take a xs = take-set-le a xs (a + j) v h in
-    rw (← drop-set-add a xs j v, ← p, ← add-suc) (store-tail (set xs (a + j) v) a (suc j) vs)
 
 -- what a writer says of the part from `end` on, said of the whole
 lent : (xs : Bytes) (end : ℕ) (vs ys : Bytes) → end ≡ counted xs → ys ≡ store 0 vs (take (length xs - end) (drop end xs)) → putMid end (length xs - end) xs ys ≡ storePast vs xs

@@ -8,18 +8,19 @@ use native.Mathlib.Nat.{add-zero, zero-add, add-assoc, sub-zero}
 use native.Mathlib.Omega.{arith}
 use lib.Dec.{leb, eqb}
 use lib.ListN.{length, length-append}
-use borrow.Author.Tests.{eq-eqb, ne-eqb, leb-false}
+use borrow.Author.Tests.{eq-eqb, ne-eqb, leb-false, eqb-true, eqb-false, not-false}
 use Rattle.loc_leaf.specs.declared.Kind.{Kind}
 use Rattle.loc_leaf.specs.declared.Kind.the-variants.{Paired, Single}
 use Rattle.loc_leaf.specs.declared.Value.{Value}
-use Rattle.loc_leaf.specs.Bytes.{Bytes, byte}
 use Rattle.loc_leaf.specs.Answers.{refuse, _orElse_}
-use Rattle.loc_leaf.specs.Slot.{stridesRefusal, slot, needsRow}
+use Rattle.loc_leaf.specs.Slot.{stridesRefusal, slot, storedAsZero, needsRow}
 use Rattle.loc_leaf.specs.Rows.{row}
 use Rattle.loc_calls.specs.Table.{Entry, Batch, valueOf, uneven, spanless, breaks, entryRefusal, entriesRefusal}
 use Rattle.loc_calls.specs.Stores.{gather, rowOf}
+use Rattle.loc_leaf.proofs.Booleans.{neither-left, neither-right}
+use Rattle.loc_leaf.proofs.ValueLaws.{SpansFit, needs-row}
 use Rattle.loc_leaf.proofs.Refusals.{orElse-first, orElse-left, orElse-right, orElse-zero, refuse-zero}
-use Rattle.loc_batch.specs.Lists.{listed, rowsOf, rowTotal, Tested}
+use Rattle.loc_batch.specs.Lists.{listed, Sound, rowsOf, rowTotal, Tested}
 
 -- ---- the lists' lengths
 
@@ -51,13 +52,15 @@ module _ (k : Kind) (b : Batch) where
 
 -- ---- rows
 
-module _ (k : Kind) (e : Entry) (v : Value) (ev : v ≡ valueOf e) (s : Bytes) (es : s ≡ slot k v) (b : Bool) (eb : b ≡ needsRow k (byte 0 s ∷ byte 1 s ∷ [])) where
+-- a record that 8 to 10 leave needs a row where a value is stored as 0
+needs-zero : (k : Kind) (e : Entry) → Sound k e → e .spans < 2 ^ 32 → needsRow k (slot k (valueOf e)) ≡ storedAsZero k (valueOf e)
+unfolding valueOf slot storedAsZero spanless SpansFit
+needs-zero Paired e s h = let z : e .spans ≡ 0 → ⊥ = eqb-false (e .spans) 0 (s .spanned) in needs-row Paired (valueOf e) (record { some = s .some; fits = s .fits; spansFit = (omega arith, h) })
+needs-zero Single e s h = needs-row Single (record { strides = e .len / 8; spans = 0 }) (record { some = s .some; fits = s .fits; spansFit = refl })
+
+module _ (k : Kind) (e : Entry) (s : Sound k e) (h : e .spans < 2 ^ 32) (v : Value) (ev : v ≡ valueOf e) (b : Bool) (eb : b ≡ storedAsZero k v) where
   pub needed : b ≡ needsRow k (slot k (valueOf e))
-  needed = eb ∙ rw (es, ev) (two k)
-    where
-      two : (j : Kind) → needsRow j (byte 0 (slot j (valueOf e)) ∷ byte 1 (slot j (valueOf e)) ∷ []) ≡ needsRow j (slot j (valueOf e))
-      two Paired = unfold needsRow in refl
-      two Single = unfold needsRow in refl
+  needed = eb ∙ rw ev (sym (needs-zero k e s h))
 
   pub rows-one : b ≡ true → 1 ≡ rowsOf k e
   unfolding rowsOf
@@ -82,13 +85,28 @@ one-next : (k : Kind) (e d : Entry) (ds : List Entry) → entryRefusal k e (d �
 unfolding entryRefusal breaks
 one-next k e d ds = refl
 
-pub strides-fit : (k : Kind) (e : Entry) (ds : List Entry) (number : ℕ) → number ≡ entryRefusal k e ds → number ≡ 0 → e .len / 8 < 2 ^ 32
+pub left-sound : (k : Kind) (e : Entry) (ds : List Entry) (number : ℕ) → number ≡ entryRefusal k e ds → number ≡ 0 → Sound k e
 unfolding entryRefusal stridesRefusal
-strides-fit k e ds number q z =
-    leb-false (2 ^ 32) (e .len / 8)
-    (refuse-zero (leb (2 ^ 32) (e .len / 8)) 9
-    (orElse-right (refuse (eqb (e .len) 0 || not (eqb (e .len % 8) 0)) 9) (refuse (leb (2 ^ 32) (e .len / 8)) 10)
-    (orElse-left (stridesRefusal (e .len)) (breaks e ds) (orElse-right (refuse (spanless k e) 8) (stridesRefusal (e .len) orElse breaks e ds) (sym q ∙ z)))))
+left-sound k e ds number q z = record {
+  some = omega (arith, whole, there);
+  fits = leb-false (2 ^ 32) (e .len / 8) (refuse-zero (leb (2 ^ 32) (e .len / 8)) 9 (orElse-right (refuse odd 9) (refuse (leb (2 ^ 32) (e .len / 8)) 10) strides));
+  spanned = refuse-zero (spanless k e) 7 (orElse-left (refuse (spanless k e) 8) (stridesRefusal (e .len) orElse breaks e ds) (sym q ∙ z));
+}
+  where
+    odd : Bool
+    odd = eqb (e .len) 0 || not (eqb (e .len % 8) 0)
+
+    strides : stridesRefusal (e .len) ≡ 0
+    strides = orElse-left (stridesRefusal (e .len)) (breaks e ds) (orElse-right (refuse (spanless k e) 8) (stridesRefusal (e .len) orElse breaks e ds) (sym q ∙ z))
+
+    even : odd ≡ false
+    even = refuse-zero odd 8 (orElse-left (refuse odd 9) (refuse (leb (2 ^ 32) (e .len / 8)) 10) strides)
+
+    whole : e .len % 8 ≡ 0
+    whole = eqb-true (e .len % 8) 0 (not-false (eqb (e .len % 8) 0) (neither-right (eqb (e .len) 0) (not (eqb (e .len % 8) 0)) even))
+
+    there : e .len ≡ 0 → ⊥
+    there = eqb-false (e .len) 0 (neither-left (eqb (e .len) 0) (not (eqb (e .len % 8) 0)) even)
 
 -- the records before the one at hand are passed, with so many rows; i is the next record's place
 pub record Passed (k : Kind) (f : ℕ → Entry) (n : ℕ) (e : Entry) (rows i : ℕ) : Type 0 where

@@ -1,21 +1,63 @@
 -- One record of a batch in the form in which the code meets it: a law for each way through a function.
 -- The results of calls and the tests are premises.
-use Prim.Native.Nat.{ℕ, zero, suc, _/_}
+use Prim.Native.Nat.{ℕ, zero, suc, _+_, _/_, _≤_, _<_}
 use mathlib.Core.Path.{_≡_, refl, sym, _∙_}
-use mathlib.Core.Bool.{Bool, true, false}
+use mathlib.Core.Bool.{Bool, true, false, _&&_}
 use mathlib.Core.List.{List, [], _∷_}
-use lib.Dec.{eqb}
-use lib.ListN.{getD}
-use borrow.Author.Tests.{eq-eqb, ne-eqb}
+use native.Mathlib.Omega.{arith}
+use lib.Dec.{leb, eqb}
+use lib.ListN.{length, getD}
+use borrow.Author.Tests.{eq-eqb, ne-eqb, le-leb, lt-leb, eqb-true, not-false}
 use Rattle.loc_leaf.specs.declared.Kind.{Kind}
 use Rattle.loc_leaf.specs.declared.Kind.the-variants.{Paired, Single}
 use Rattle.loc_leaf.specs.declared.Answer.{Answer}
+use Rattle.loc_leaf.specs.declared.Value.{Value}
 use Rattle.loc_leaf.specs.Answers.{refuse, _orElse_, answer}
-use Rattle.loc_leaf.specs.Slot.{stridesRefusal, stridesFrom}
+use Rattle.loc_leaf.specs.Slot.{stridesRefusal, stridesFrom, storedAsZero}
+use Rattle.loc_leaf.proofs.Booleans.{both-left, both-right}
 use Rattle.loc_leaf.proofs.Refusals.{orElse-first}
-use Rattle.loc_calls.specs.Table.{batch, Entry, bodyAfter, spanAfter, spanless, breaks, entryRefusal}
-use Rattle.loc_batch.specs.Lists.{entryAt, asEntry}
+use Rattle.loc_calls.specs.Table.{Batch, batch, Entry, uneven, bodyAfter, spanAfter, spanless, breaks, entryRefusal}
+use Rattle.loc_batch.specs.Lists.{entryAt, asEntry, Held}
 use Rattle.loc_batch.specs.declared.Record.{Record}
+
+-- ---- lists of one length
+
+pub starts-even : (k : Kind) (b : Batch) → uneven k b ≡ false → length (b .starts) ≡ length (b .lens)
+unfolding uneven
+starts-even Paired b e = eqb-true _ _ (both-left _ _ (both-left _ _ (not-false _ e)))
+starts-even Single b e = eqb-true _ _ (not-false _ e)
+
+pub spans-even : (b : Batch) → uneven Paired b ≡ false → (length (b .spanStarts) ≡ length (b .lens)) × (length (b .spanCounts) ≡ length (b .lens))
+unfolding uneven
+spans-even b e = (eqb-true _ _ (both-right starts spans (both-left (starts && spans) counts all)), eqb-true _ _ (both-right (starts && spans) counts all))
+  where
+    starts : Bool
+    starts = eqb (length (b .starts)) (length (b .lens))
+
+    spans : Bool
+    spans = eqb (length (b .spanStarts)) (length (b .lens))
+
+    counts : Bool
+    counts = eqb (length (b .spanCounts)) (length (b .lens))
+
+    all : (starts && spans && counts) ≡ true
+    all = not-false (starts && spans && counts) e
+
+pub held-at : (k : Kind) (b : Batch) (n : ℕ) → Held k b n → (i : ℕ) → i < n → Held k b (i + 1)
+held-at k b n h i g = record { even = h .even; inside = omega (arith, h .inside) }
+
+-- a record that they hold is in each of them that is read
+module _ (k : Kind) (b : Batch) (i : ℕ) (h : Held k b (i + 1)) where
+  pub in-starts : i < length (b .starts)
+  in-starts = omega (arith, h .inside, starts-even k b (h .even))
+
+  pub in-span-starts : k ≡ Paired → i < length (b .spanStarts)
+  in-span-starts q = omega (arith, h .inside, spans-even b (rw q at (h .even)) .0)
+
+  pub in-span-counts : k ≡ Paired → i < length (b .spanCounts)
+  in-span-counts q = omega (arith, h .inside, spans-even b (rw q at (h .even)) .1)
+
+-- ---- one record
 
 module _ (k : Kind) (starts lens spanStarts spanCounts : List ℕ) (i a b : ℕ) (ea : a ≡ getD starts i 0) (eb : b ≡ getD lens i 0) where
   pub record-paired : (c d : ℕ) → k ≡ Paired → c ≡ getD spanStarts i 0 → d ≡ getD spanCounts i 0
@@ -26,6 +68,19 @@ module _ (k : Kind) (starts lens spanStarts spanCounts : List ℕ) (i a b : ℕ)
   pub record-single : k ≡ Single → asEntry (record { start = a; len = b; «span_start» = 16; spans = 0 }) ≡ entryAt k (batch starts lens spanStarts spanCounts) i
   unfolding asEntry entryAt
   record-single e = rw (e, ea, eb) refl
+
+module _ (k : Kind) (v : Value) where
+  pub zero-strides : k ≡ Paired → 256 ≤ v .strides → true ≡ storedAsZero k v
+  unfolding storedAsZero
+  zero-strides q h = rw (q, le-leb 256 (v .strides) h) refl
+
+  pub zero-spans : k ≡ Paired → v .strides < 256 → leb 256 (v .spans) ≡ storedAsZero k v
+  unfolding storedAsZero
+  zero-spans q h = rw (q, lt-leb 256 (v .strides) h) refl
+
+  pub zero-single : k ≡ Single → leb 65536 (v .strides) ≡ storedAsZero k v
+  unfolding storedAsZero
+  zero-single q = rw q refl
 
 module _ (k : Kind) (e : Record) where
   pub spanless-paired : k ≡ Paired → eqb (e .spans) 0 ≡ spanless k (asEntry e)

@@ -3,20 +3,20 @@
 use Prim.Native.Nat.{ℕ, zero, suc, _+_, _-_, _*_, _/_, _^_, _≤_, _<_}
 use mathlib.Core.Path.{_≡_, refl, sym, ap, _∙_}
 use mathlib.Core.Logic.{_⊎_, inl, inr}
-use mathlib.Core.Bool.{Bool, true, false, not, _&&_, true≢false, false≢true}
+use mathlib.Core.Bool.{Bool, true, false, not, true≢false, false≢true}
 use mathlib.Core.List.{List, [], _∷_, flatten}
 use native.Mathlib.Nat.{add-zero, zero-add, mul-comm, div-lt-iff-lt-mul, div-mul-le-self, mul-le-mul-right}
 use native.Mathlib.Omega.{arith}
-use lib.Dec.{ltb, eqb}
+use lib.Dec.{ltb}
 use lib.ListN.{length, getD, replicate, length-replicate, getD-replicate}
-use borrow.Author.Tests.{lt-ltb, le-ltb, ltb-true, ltb-false, eqb-true}
+use borrow.Author.Tests.{lt-ltb, le-ltb, ltb-true, ltb-false}
 use Rattle.loc_leaf.specs.declared.Kind.{Kind}
 use Rattle.loc_leaf.specs.declared.Kind.the-variants.{Paired, Single}
 use Rattle.loc_leaf.specs.Answers.{refuse, _orElse_}
 use Rattle.loc_leaf.specs.Bytes.{Bytes}
 use Rattle.loc_leaf.specs.Area.{counted}
 use Rattle.loc_leaf.specs.Kind.{rowWidth, checkpointWidth}
-use Rattle.loc_leaf.proofs.Booleans.{is?, both-left, both-right}
+use Rattle.loc_leaf.proofs.Booleans.{is?}
 use Rattle.loc_leaf.proofs.Refusals.{orElse-first}
 use Rattle.loc_leaf.proofs.AreaLaws.{counted-le, length-flatten}
 use Rattle.loc_calls.specs.Areas.{Areas, sizes, count}
@@ -24,7 +24,8 @@ use Rattle.loc_calls.specs.Table.{Entry, Batch, append, zipped, entries, uneven
 use Rattle.loc_calls.specs.Stores.{gather, slotOf, rowOf, checkpointOf, staged, newEnd, newEnds}
 use Rattle.loc_calls.proofs.Batches.{Fits, batch-tested, batch-fits}
 use Rattle.loc_calls.proofs.Gathered.{widths-slots, widths-rows, widths-checkpoints, length-slots, length-checkpoints-from}
-use Rattle.loc_batch.specs.Lists.{entryAt, listed, rowTotal, Tested}
+use Rattle.loc_batch.specs.Lists.{entryAt, listed, Held, rowTotal, Tested}
+use Rattle.loc_batch.proofs.EntryLaws.{starts-even, spans-even}
 use Rattle.loc_batch.proofs.BatchLaws.{rows-staged}
 use Rattle.loc_batch.specs.Plans.{EndsOf, windows, reached, Reaches, Ready, RoomPast, Planned}
 use Rattle.loc_batch.specs.declared.Stage.{Stage}
@@ -83,32 +84,22 @@ zipped-listed (s ∷ ss) (l ∷ ls) (p ∷ ps) (c ∷ cs) f i x y z h =
     rw (zipped-listed ss ls ps cs f (i + 1) (omega (arith, x)) (omega (arith, y)) (omega (arith, z)) (λ j g. ap f (omega arith) ∙ h (suc j) (omega arith)))
     (ap {B = List Entry} (λ d. d ∷ listed f (i + 1) (length ls)) (sym (ap f (sym (add-zero i)) ∙ h 0 (omega arith))))
 
-both-even : (x y : Bool) → not (x && y) ≡ false → (x ≡ true) × (y ≡ true)
-both-even true true e = (refl, refl)
-both-even true false e = absurd (true≢false e)
-both-even false y e = absurd (true≢false e)
-
 pub entries-listed : (k : Kind) (b : Batch) → uneven k b ≡ false → entries k b ≡ listed (entryAt k b) 0 (length (b .lens))
-unfolding uneven entries entryAt
+unfolding entries entryAt
 entries-listed Paired b e =
-    zipped-listed (b .starts) (b .lens) (b .spanStarts) (b .spanCounts) (entryAt Paired b) 0 (eqb-true _ _ (first .0)) (eqb-true _ _ (first .1)) (eqb-true _ _ (all .1)) (λ j h. ap (entryAt Paired b) (zero-add j))
-  where
-    all : ((eqb (length (b .starts)) (length (b .lens)) && eqb (length (b .spanStarts)) (length (b .lens))) ≡ true) × (eqb (length (b .spanCounts)) (length (b .lens)) ≡ true)
-    all = both-even _ _ e
-
-    parts : (x y : Bool) → (x && y) ≡ true → (x ≡ true) × (y ≡ true)
-    parts x y q = (both-left x y q, both-right x y q)
-
-    first : (eqb (length (b .starts)) (length (b .lens)) ≡ true) × (eqb (length (b .spanStarts)) (length (b .lens)) ≡ true)
-    first = parts _ _ (all .0)
+    zipped-listed (b .starts) (b .lens) (b .spanStarts) (b .spanCounts) (entryAt Paired b) 0 (starts-even Paired b e) (spans-even b e .0) (spans-even b e .1) (λ j h. ap (entryAt Paired b) (zero-add j))
 entries-listed Single b e =
-    zipped-listed (b .starts) (b .lens) (replicate (length (b .lens)) 16) (replicate (length (b .lens)) 0) (entryAt Single b) 0 (even (eqb (length (b .starts)) (length (b .lens))) refl e)
+    zipped-listed (b .starts) (b .lens) (replicate (length (b .lens)) 16) (replicate (length (b .lens)) 0) (entryAt Single b) 0 (starts-even Single b e)
     (length-replicate (length (b .lens)) 16) (length-replicate (length (b .lens)) 0)
     (λ j h. ap (entryAt Single b) (zero-add j) ∙ rw (getD-replicate {A = ℕ} (length (b .lens)) j 16 0 h, getD-replicate {A = ℕ} (length (b .lens)) j 0 0 h) refl)
+
+-- lists that agree hold every record
+pub all-held : (k : Kind) (b : Batch) (agree : Bool) → agree ≡ not (uneven k b) → agree ≡ true → Held k b (length (b .lens))
+all-held k b agree ea h = record { even = of (uneven k b) (sym ea ∙ h); inside = omega arith }
   where
-    even : (x : Bool) → eqb (length (b .starts)) (length (b .lens)) ≡ x → not x ≡ false → length (b .starts) ≡ length (b .lens)
-    even true q z = eqb-true _ _ q
-    even false q z = absurd (true≢false z)
+    of : (u : Bool) → not u ≡ true → u ≡ false
+    of true q = absurd (false≢true q)
+    of false q = refl
 
 -- ---- the ends that the records of a batch reach
 
@@ -151,7 +142,7 @@ module _ (k : Kind) (a : Areas) (es : List Entry) (old : Ends) (eo : EndsOf a ol
 module _ (k : Kind) (a : Areas) (b : Batch) (agree : Bool) (ea : agree ≡ not (uneven k b)) where
   pub plan-uneven : (t : Stage) → agree ≡ false → Planned k a b (record { number = 7; stage = t })
   unfolding table
-  plan-uneven t h = record { number = rw (odd (uneven k b) (sym ea ∙ h)) refl; entries = λ e. absurd (omega arith); ready = λ e. absurd (omega arith) }
+  plan-uneven t h = record { number = rw (odd (uneven k b) (sym ea ∙ h)) refl; entries = λ e. absurd (omega arith); ready = λ e. absurd (omega arith); held = λ e. absurd (omega arith) }
     where
       odd : (u : Bool) → not u ≡ false → u ≡ true
       odd true q = refl
@@ -159,11 +150,7 @@ module _ (k : Kind) (a : Areas) (b : Batch) (agree : Bool) (ea : agree ≡ not (
 
   module _ (h : agree ≡ true) where
     even : uneven k b ≡ false
-    even = of (uneven k b) (sym ea ∙ h)
-      where
-        of : (u : Bool) → not u ≡ true → u ≡ false
-        of true q = absurd (false≢true q)
-        of false q = refl
+    even = all-held k b agree ea h .even
 
     es : List Entry
     es = listed (entryAt k b) 0 (length (b .lens))
@@ -216,6 +203,7 @@ module _ (k : Kind) (a : Areas) (b : Batch) (agree : Bool) (ea : agree ≡ not (
     number = sym (all-of ∙ none);
     entries = λ _. listed-of ∙ ap (listed (entryAt k b) 0) z;
     ready = λ _. ready-from k a (listed (entryAt k b) 0 0) _ eb eo (same (a .slots) (slotOf k) (eo .slots)) (same (a .rows) (rowOf k) (eo .rows)) (same (a .checkpoints) (checkpointOf k) (eo .checkpoints)) (omega arith) none₀;
+    held = λ _. record { even = even k a b agree ea h; inside = omega arith };
   }
     where
       none₀ : batchRefusal k (newEnds k a (listed (entryAt k b) 0 0)) (sizes a) (listed (entryAt k b) 0 0) ≡ 0
@@ -233,6 +221,7 @@ module _ (k : Kind) (a : Areas) (b : Batch) (agree : Bool) (ea : agree ≡ not (
       number = sym (all-of ∙ some-listed k a b agree ea h n z ∙ rw (← tested .refused) (orElse-first number _ g));
       entries = λ e. absurd (g e);
       ready = λ e. absurd (g e);
+      held = λ e. absurd (g e);
     }
 
     module _ (ok : number ≡ 0) (d : Decision) (r : Reaches k (length (a .slots)) (length (a .rows)) (length (a .checkpoints)) old base n rows d) where
@@ -254,6 +243,7 @@ module _ (k : Kind) (a : Areas) (b : Batch) (agree : Bool) (ea : agree ≡ not (
         ready = λ e. rw (r .stage e) (ready-from k a (listed (entryAt k b) 0 n) _ eb eo
             (sym (reached-slots k a (listed (entryAt k b) 0 n) old eo base n eb long)) (sym (reached-rows k a (listed (entryAt k b) 0 n) old eo base n eb long rows (tested .total ok)))
             (sym (reached-checkpoints k a (listed (entryAt k b) 0 n) old eo base n eb long)) (r .few e) (sym reach-number ∙ e));
+        held = λ e. rw (r .stage e, en) (all-held k b agree ea h);
       }
         where
           long : length (listed (entryAt k b) 0 n) ≡ n

@@ -15,7 +15,7 @@ use Rattle.loc_calls.specs.Calls.{tooSmall, unread, isOpening, refusal, places,
 use Rattle.loc_leaf.proofs.Refusals.{orElse-first, orElse-zero}
 use Rattle.loc_calls.specs.Promises.{Stored}
 use Rattle.loc_calls.proofs.Outcomes.{refused, accepted, refusal-after}
-use Rattle.loc_batch.specs.Lists.{entryAt, listed}
+use Rattle.loc_batch.specs.Lists.{entryAt, listed, Held}
 use Rattle.loc_batch.specs.Plans.{growing, stagePlaces, RoomPast, Ready, Planned}
 use Rattle.loc_batch.specs.declared.Stage.{Stage}
 use Rattle.loc_batch.specs.declared.Decision.{Decision}
@@ -43,6 +43,9 @@ module _ (k : Kind) (s r c : Bytes) (b : Batch) (p first : ℕ) (e : first ≡ r
     module _ (ok : d .number ≡ 0) where
       pub append-room : RoomPast k (d .stage .base) (d .stage .n) (listed (entryAt k b) 0 (d .stage .n)) (areas s r c)
       append-room = q .ready ok .room
+
+      pub append-held : Held k b (d .stage .n)
+      append-held = q .held ok
 
       pub append-done : (x y o : Bytes) (m : ℕ) → areas x y o ≡ run p (stagePlaces k (listed (entryAt k b) 0 (d .stage .n)) (d .stage)) (areas s r c) → m ≡ fill 2 x
           → Stored (call k p (append b) (areas s r c)) (record { number = 0; value = m }) (areas x y o)

@@ -1,20 +1,22 @@
 -- Staged bytes written record by record, in the form in which the code meets them.
 -- What is left to write, on what is written so far, is the whole.
-use Prim.Native.Nat.{ℕ, suc, _+_, _-_, _/_, _%_, _^_, _≤_, _<_}
+use Prim.Native.Nat.{ℕ, suc, _+_, _-_, _%_, _^_, _≤_, _<_}
 use mathlib.Core.Path.{_≡_, refl, sym, ap, _∙_, subst}
 use mathlib.Core.Bool.{Bool, true, false}
 use mathlib.Core.List.{List, [], _∷_, _++_, append-nil, append-assoc, flatten}
-use native.Mathlib.Nat.{add-zero, sub-zero}
+use native.Mathlib.Nat.{add-zero, add-suc, sub-zero}
 use native.Mathlib.Numerals.{add-one}
 use native.Mathlib.Omega.{arith}
-use lib.ListN.{length, set, length-append}
+use lib.ListN.{length, take, drop, set, length-append, take-append-drop}
+use lib.Seq.{take-set-le, take-set-lt, drop-set-lt, drop-set-add}
+use borrow.Rule.Slice.PartMut.{putMid}
 use borrow.Author.Tests.{eq-eqb, ne-eqb}
 use Rattle.loc_leaf.specs.declared.Kind.{Kind}
 use Rattle.loc_leaf.specs.declared.Kind.the-variants.{Paired, Single}
 use Rattle.loc_leaf.specs.declared.Value.{Value}
 use Rattle.loc_leaf.specs.Bytes.{Bytes, byte, bytes, store}
 use Rattle.loc_leaf.specs.Kind.{rowWidth, checkpointWidth}
-use Rattle.loc_leaf.specs.Slot.{slot, needsRow}
+use Rattle.loc_leaf.specs.Slot.{slot, storedAsZero}
 use Rattle.loc_leaf.specs.Rows.{row}
 use Rattle.loc_leaf.proofs.Stored.{length-bytes, length-store}
 use Rattle.loc_leaf.proofs.ValueLaws.{length-slot, length-row}
@@ -23,8 +25,8 @@ use Rattle.loc_calls.specs.Table.{Entry, valueOf, bodyAfter, spanAfter, entryRe
 use Rattle.loc_leaf.proofs.Refusals.{orElse-left, orElse-right}
 use Rattle.loc_calls.specs.Stores.{checkpoint, gather, slotOf, rowOf, checkpointOf}
 use Rattle.loc_calls.proofs.Gathered.{length-checkpoint}
-use Rattle.loc_batch.specs.Lists.{listed, Written, Room, Staged}
-use Rattle.loc_batch.proofs.BatchLaws.{needed, listed-next, listed-end, strides-fit}
+use Rattle.loc_batch.specs.Lists.{listed, Sound, Written, Room, Staged}
+use Rattle.loc_batch.proofs.BatchLaws.{needed, listed-next, listed-end, left-sound}
 
 -- ---- stores one after the other
 
@@ -32,6 +34,26 @@ pub store-append : (to : ℕ) (xs ys l : Bytes) → store to (xs ++ ys) l ≡ st
 unfolding store
 store-append to [] ys l = rw (add-zero to) refl
 store-append to (x ∷ xs) ys l = let e : suc to + length xs ≡ to + suc (length xs) = omega arith in rw (← e) (store-append (suc to) xs ys (set l to x))
+
+-- a store in what lies from a place on, and in the first part of a list
+pub store-tail : (xs : Bytes) (a j : ℕ) (vs : Bytes) → take a xs ++ store j vs (drop a xs) ≡ store (a + j) vs xs
+unfolding store
+store-tail xs a j [] = take-append-drop a xs
+store-tail xs a j (v ∷ vs) =
+    let h : a ≤ a + j = omega arith in
+    let p : take a (set xs (a + j) v) ≡ take a xs = take-set-le a xs (a + j) v h in
+    rw (← drop-set-add a xs j v, ← p, ← add-suc) (store-tail (set xs (a + j) v) a (suc j) vs)
+
+store-head : (xs : Bytes) (n j : ℕ) (vs : Bytes) → j + length vs ≤ n → store j vs (take n xs) ++ drop n xs ≡ store j vs xs
+unfolding store
+store-head xs n j [] h = take-append-drop n xs
+store-head xs n j (v ∷ vs) h =
+    let g : j < n = omega arith in
+    rw (← take-set-lt n xs j v g, ← drop-set-lt n xs j v g) (store-head (set xs j v) n (suc j) vs (omega arith))
+
+-- a number stored in a part that is lent for it
+pub part-put : (xs : Bytes) (to n v : ℕ) (ys : Bytes) → ys ≡ store 0 (bytes n v) (take (to + n - to) (drop to xs)) → putMid to (to + n - to) xs ys ≡ store to (bytes n v) xs
+part-put xs to n v ys q = rw (q, store-head (drop to xs) (to + n - to) 0 (bytes n v) (rw (length-bytes n v) (omega arith)), store-tail xs to 0 (bytes n v), add-zero) refl
 
 -- one piece
 one-piece : (b : Bytes) → flatten (b ∷ []) ≡ b
@@ -56,6 +78,10 @@ module _ (k : Kind) (id : ℕ) (e : Entry) (v : Value) (ev : v ≡ valueOf e) (s
 
 -- ---- a row
 
+pub row-wide : (k : Kind) → 12 ≤ rowWidth k
+row-wide Paired = omega arith
+row-wide Single = omega arith
+
 module _ (k : Kind) (id to : ℕ) (v : Value) (out a b : Bytes) (p : a ≡ store to (bytes 8 id) out) (q : b ≡ store (to + 8) (bytes 4 (v .strides)) a) where
   pub row-single : k ≡ Single → b ≡ store to (row k id v) out
   unfolding row
@@ -68,24 +94,28 @@ module _ (k : Kind) (id to : ℕ) (v : Value) (out a b : Bytes) (p : a ≡ store
       r ∙ rw (e, q, p, store-append to (bytes 8 id) (bytes 4 (v .strides) ++ bytes 4 (v .spans)) out, store-append (to + length (bytes 8 id)) (bytes 4 (v .strides)) (bytes 4 (v .spans)) (store to (bytes 8 id) out), length-bytes 8 id, length-bytes 4 (v .strides), t) refl
 
 -- the row of a record that needs one, and of one that does not
-module _ (k : Kind) (id : ℕ) (e : Entry) (v : Value) (ev : v ≡ valueOf e) (s : Bytes) (es : s ≡ slot k v) (b : Bool) (eb : b ≡ needsRow k (byte 0 s ∷ byte 1 s ∷ [])) (out : Bytes) (to : ℕ) where
+module _ (k : Kind) (id : ℕ) (e : Entry) (s : Sound k e) (h : e .spans < 2 ^ 32) (v : Value) (ev : v ≡ valueOf e) (b : Bool) (eb : b ≡ storedAsZero k v) (to : ℕ) where
   some : b ≡ true → flatten (rowOf k id e) ≡ row k id v
   unfolding rowOf
-  some t = rw (← needed k e v ev s es b eb, t, one-piece (row k id (valueOf e)), ev) refl
+  some t = rw (← needed k e s h v ev b eb, t, one-piece (row k id (valueOf e)), ev) refl
 
-  pub row-room : b ≡ true → to + length (flatten (rowOf k id e)) ≤ length out → to + rowWidth k ≤ length out
-  row-room t h = rw (some t, length-row k id v) at h
+  pub row-room : b ≡ true → (size : ℕ) → to + length (flatten (rowOf k id e)) ≤ size → to + rowWidth k ≤ size
+  row-room t size g = rw (some t, length-row k id v) at g
 
-  pub row-written : b ≡ true → (m : Bytes) (w : ℕ) → m ≡ store to (row k id v) out → w ≡ rowWidth k → Written out to (rowOf k id e) m (to + w)
-  row-written t m w q ew = record { stored = rw (some t) q; past = rw (some t, length-row k id v, ew) refl }
+  pub row-written : b ≡ true → (out m : Bytes) (w : ℕ) → m ≡ store to (row k id v) out → w ≡ rowWidth k → Written out to (rowOf k id e) m (to + w)
+  row-written t out m w q ew = record { stored = rw (some t) q; past = rw (some t, length-row k id v, ew) refl }
 
-  pub row-passed : b ≡ false → Written out to (rowOf k id e) out to
-  row-passed t = record { stored = unfold store in rw none refl; past = rw none (sym (add-zero to)) }
+  pub row-passed : b ≡ false → (out : Bytes) → Written out to (rowOf k id e) out to
+  row-passed t out = record { stored = unfold store in rw none refl; past = rw none (sym (add-zero to)) }
     where
       none : flatten (rowOf k id e) ≡ []
-      none = unfold rowOf in rw (← needed k e v ev s es b eb, t) (unfold flatten in refl)
+      none = unfold rowOf in rw (← needed k e s h v ev b eb, t) (unfold flatten in refl)
 
 -- ---- a checkpoint
+
+pub checkpoint-wide : (k : Kind) → 8 ≤ checkpointWidth k
+checkpoint-wide Paired = omega arith
+checkpoint-wide Single = omega arith
 
 module _ (k : Kind) (e : Entry) (to x y : ℕ) (ex : x ≡ bodyAfter e) (ey : y ≡ spanAfter e) (out a : Bytes) (p : a ≡ store to (bytes 8 x) out) where
   pub checkpoint-single : k ≡ Single → a ≡ store to (checkpoint k e) out
@@ -171,8 +201,8 @@ module _ (f : ℕ → Entry) (base n i : ℕ) (h : i < n) (e : Entry) (ee : e �
     unfolding entriesRefusal
     tested = sym (ap (entriesRefusal k) (listed-next f i n h ∙ ap (λ (d : Entry). d ∷ listed f (i + 1) (n - (i + 1))) (sym ee))) ∙ ok
 
-    pub at-fits : e .len / 8 < 2 ^ 32
-    at-fits = strides-fit k e (listed f (i + 1) (n - (i + 1))) _ refl (orElse-left (entryRefusal k e (listed f (i + 1) (n - (i + 1)))) (entriesRefusal k (listed f (i + 1) (n - (i + 1)))) tested)
+    pub at-sound : Sound k e
+    at-sound = left-sound k e (listed f (i + 1) (n - (i + 1))) _ refl (orElse-left (entryRefusal k e (listed f (i + 1) (n - (i + 1)))) (entriesRefusal k (listed f (i + 1) (n - (i + 1)))) tested)
 
     pub at-rest : entriesRefusal k (listed f (i + 1) (n - (i + 1))) ≡ 0
     at-rest = orElse-right (entryRefusal k e (listed f (i + 1) (n - (i + 1)))) (entriesRefusal k (listed f (i + 1) (n - (i + 1)))) tested
@@ -216,8 +246,8 @@ module _ (k : Kind) (f : ℕ → Entry) (base n : ℕ) (slots₀ rows₀ checkpo
     }
 
     module _ (h : i < n) (e : Entry) (ee : e ≡ f i) (id : ℕ) (eid : id ≡ base + 1 + i) where
-      pub writing-fits : e .len / 8 < 2 ^ 32
-      writing-fits = at-fits f base n i h e ee id eid k (w .accepted)
+      pub writing-sound : Sound k e
+      writing-sound = at-sound f base n i h e ee id eid k (w .accepted)
 
       pub writing-slot : slotTo + 2 ≤ length slots
       writing-slot = slot-room k id e slotTo (length slots) (at-room f base n i h e ee id eid (slotOf k) slots slotTo _ (w .slotsLeft))

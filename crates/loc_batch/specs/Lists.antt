@@ -1,8 +1,8 @@
 -- A batch as four lent lists, record by record, and the areas as three lent slices.
 -- A list that ends early counts as 0 from there on; number 7 refuses it before that matters.
-use Prim.Native.Nat.{ℕ, zero, suc, _+_, _^_, _≤_, _<_}
+use Prim.Native.Nat.{ℕ, zero, suc, _+_, _/_, _^_, _≤_, _<_}
 use mathlib.Core.Path.{_≡_}
-use mathlib.Core.Bool.{cond}
+use mathlib.Core.Bool.{false, cond}
 use mathlib.Core.List.{List, [], _∷_, flatten}
 use lib.ListN.{length, getD}
 use Rattle.loc_leaf.specs.declared.Kind.{Kind}
@@ -10,13 +10,18 @@ use Rattle.loc_leaf.specs.declared.Kind.the-variants.{Paired, Single}
 use Rattle.loc_leaf.specs.Bytes.{Bytes, store}
 use Rattle.loc_leaf.specs.Slot.{slot, needsRow}
 use Rattle.loc_calls.specs.Stores.{gather, slotOf, rowOf, checkpointOf}
-use Rattle.loc_calls.specs.Table.{Batch, Entry, valueOf, entriesRefusal}
+use Rattle.loc_calls.specs.Table.{Batch, Entry, valueOf, uneven, spanless, entriesRefusal}
 use Rattle.loc_batch.specs.declared.Record.{Record}
 
 -- record i of a batch, counted from 0
 unfoldable pub entryAt : Kind → Batch → ℕ → Entry
 entryAt Paired b i = record { start = getD (b .starts) i 0; len = getD (b .lens) i 0; spanStart = getD (b .spanStarts) i 0; spans = getD (b .spanCounts) i 0 }
 entryAt Single b i = record { start = getD (b .starts) i 0; len = getD (b .lens) i 0; spanStart = 16; spans = 0 }
+
+-- the lists of a batch that are read hold n records
+pub record Held (k : Kind) (b : Batch) (n : ℕ) : Type 0 where
+  pub even : uneven k b ≡ false
+  pub inside : n ≤ length (b .lens)
 
 -- the code's record as an entry
 unfoldable pub asEntry : Record → Entry
@@ -26,6 +31,12 @@ asEntry r = record { start = r .start; len = r .len; spanStart = r .«span_start
 unfoldable pub listed : (ℕ → Entry) → ℕ → ℕ → List Entry
 listed f i zero = []
 listed f i (suc n) = f i ∷ listed f (i + 1) n
+
+-- what 8 to 10 leave of a record
+pub record Sound (k : Kind) (e : Entry) : Type 0 where
+  pub some : 0 < e .len / 8
+  pub fits : e .len / 8 < 2 ^ 32
+  pub spanned : spanless k e ≡ false
 
 -- how many rows a record stages, and a list of them
 unfoldable pub rowsOf : Kind → Entry → ℕ

@@ -14,7 +14,7 @@ use Rattle.loc_leaf.specs.Kind.{rowWidth, checkpointWidth}
 use Rattle.loc_calls.specs.Areas.{Areas, each, sizes, count}
 use Rattle.loc_calls.specs.Table.{Entry, Batch, append, table}
 use Rattle.loc_calls.specs.Stores.{Place, keep, slotLength, rowLength, checkpointLength, write, gather, slotOf, rowOf, checkpointOf, staged, newEnd, newEnds}
-use Rattle.loc_batch.specs.Lists.{entryAt, listed, Room}
+use Rattle.loc_batch.specs.Lists.{entryAt, listed, Held, Room}
 use Rattle.loc_batch.specs.declared.Stage.{Stage}
 use Rattle.loc_batch.specs.declared.Ends.{Ends}
 use Rattle.loc_batch.specs.declared.Decision.{Decision}
@@ -77,3 +77,4 @@ pub record Planned (k : Kind) (a : Areas) (b : Batch) (d : Decision) : Type 0 wh
   pub number : d .number ≡ table k (count a) (newEnds k a) (sizes a) (append b)
   pub entries : d .number ≡ 0 → Rattle.loc_calls.specs.Table.entries k b ≡ listed (entryAt k b) 0 (d .stage .n)
   pub ready : d .number ≡ 0 → Ready k a (listed (entryAt k b) 0 (d .stage .n)) (d .stage)
+  pub held : d .number ≡ 0 → Held k b (d .stage .n)

@@ -7,7 +7,7 @@ ghost use lib.ListN.{getD};
 ghost use Rattle.loc_calls.specs.Table.{batch};
 ghost use Rattle.loc_calls.specs.Areas.{each, areas};
 ghost use Rattle.loc_calls.specs.Stores.{keep, write, step, run, staged};
-ghost use Rattle.loc_batch.specs.Lists.{entryAt, listed};
+ghost use Rattle.loc_batch.specs.Lists.{entryAt, listed, Held};
 ghost use Rattle.loc_batch.specs.Plans.{grown, stagePlaces, RoomPast};
 use crate::Stage;
 use crate::staging::write_batch;
@@ -29,6 +29,7 @@ fn write_bytes(
     base: u64,
 )
     requires { ⌜ RoomPast kind base n (listed (entryAt kind (batch (now starts) (now lens) (now «span_starts») (now «span_counts»))) 0 n) (areas (now slots) (now rows) (now checkpoints)) ⌝ }
+    requires { ⌜ Held kind (batch (now starts) (now lens) (now «span_starts») (now «span_counts»)) n ⌝ }
     ensures { λ _. ⌜ areas (now (slots .exit)) (now (rows .exit)) (now (checkpoints .exit))
         ≡ step (write (each flatten (staged kind base (listed (entryAt kind (batch (now (starts .entry)) (now (lens .entry)) (now («span_starts» .entry)) (now («span_counts» .entry)))) 0 n))))
         (areas (now (slots .entry)) (now (rows .entry)) (now (checkpoints .entry))) ⌝ }
@@ -72,6 +73,7 @@ fn append_step(
     place: u64,
 )
     requires { ⌜ (place ≡ 0 → RoomPast kind (t .base) (t .n) (listed (entryAt kind (batch (now starts) (now lens) (now «span_starts») (now «span_counts»))) 0 (t .n)) (areas (now slots) (now rows) (now checkpoints))) ⌝ }
+    requires { ⌜ Held kind (batch (now starts) (now lens) (now «span_starts») (now «span_counts»)) (t .n) ⌝ }
     ensures { λ _. ⌜ areas (now (slots .exit)) (now (rows .exit)) (now (checkpoints .exit))
         ≡ step (getD (stagePlaces kind (listed (entryAt kind (batch (now (starts .entry)) (now (lens .entry)) (now («span_starts» .entry)) (now («span_counts» .entry)))) 0 (t .n)) t) place keep)
         (areas (now (slots .entry)) (now (rows .entry)) (now (checkpoints .entry))) ⌝ }
@@ -129,6 +131,7 @@ pub fn append_stores(
     s: u64,
 )
     requires { ⌜ RoomPast kind (t .base) (t .n) (listed (entryAt kind (batch (now starts) (now lens) (now «span_starts») (now «span_counts»))) 0 (t .n)) (areas (now slots) (now rows) (now checkpoints)) ⌝ }
+    requires { ⌜ Held kind (batch (now starts) (now lens) (now «span_starts») (now «span_counts»)) (t .n) ⌝ }
     ensures { λ _. ⌜ areas (now (slots .exit)) (now (rows .exit)) (now (checkpoints .exit))
         ≡ run s (stagePlaces kind (listed (entryAt kind (batch (now (starts .entry)) (now (lens .entry)) (now («span_starts» .entry)) (now («span_counts» .entry)))) 0 (t .n)) t)
         (areas (now (slots .entry)) (now (rows .entry)) (now (checkpoints .entry))) ⌝ }

@@ -2,17 +2,16 @@
 // One pass over the records decides both.
 ghost use mathlib.Core.Path.{_≡_};
 ghost use mathlib.Core.Bool.{not};
-ghost use Prim.Native.Nat.{_/_, _^_, _≤_, _<_};
+ghost use Prim.Native.Nat.{_≤_, _<_};
 ghost use Rattle.loc_calls.specs.Table.{batch, uneven};
-ghost use Rattle.loc_batch.specs.Lists.{entryAt, asEntry, listed, rowsOf, Tested};
+ghost use Rattle.loc_batch.specs.Lists.{entryAt, asEntry, listed, rowsOf, Held, Sound, Tested};
 use crate::Record;
+use crate::entry::is_stored_as_zero;
 use crate::entry::own_number;
 use crate::entry::record_at;
 use crate::entry::record_number;
 use crate::entry::value_of;
 use loc_leaf::Kind;
-use loc_leaf::delta_loc::needs_row;
-use loc_leaf::delta_loc::pack;
 
 // Whether the lists of a batch have one length.
 pub fn lists_agree(
@@ -41,11 +40,10 @@ pub fn lists_agree(
 
 // 1 for a record that stages a row, 0 for one that does not.
 pub fn rows_of(kind: Kind, e: Record) -> usize
-    requires { ⌜ e .len / 8 < 2 ^ 32 ⌝ }
+    requires { ⌜ Sound kind (asEntry e) ⌝ }
     ensures { λ r. ⌜ (r ≡ rowsOf kind (asEntry e)) × (r ≤ 1) ⌝ }
 {
-    let slot = pack(kind, value_of(e));
-    if needs_row(kind, slot[0], slot[1]) {
+    if is_stored_as_zero(kind, value_of(e)) {
         return 1;
     }
     0
@@ -66,6 +64,7 @@ pub fn check_batch(
     n: usize,
 ) -> Checked
     requires { ⌜ 0 < n ⌝ }
+    requires { ⌜ Held kind (batch (now starts) (now lens) (now «span_starts») (now «span_counts»)) n ⌝ }
     ensures { λ r. ⌜ Tested kind (listed (entryAt kind (batch (now (starts .entry)) (now (lens .entry)) (now («span_starts» .entry)) (now («span_counts» .entry)))) 0 n) (r .number) (r .rows) ⌝ }
 {
     let mut e = record_at(kind, starts, lens, span_starts, span_counts, 0);

@@ -1,28 +1,17 @@
 // One record of a batch: its numbers, its values, its refusal.
-// Lists are read by place; past its end a list counts as 0.
+// Lists are read by place, as far as they all reach.
 ghost use mathlib.Core.Path.{_≡_};
 ghost use mathlib.Core.List.{[], _∷_};
-ghost use Prim.Native.Nat.{_*_, _/_, _^_, _<_};
-ghost use lib.ListN.{getD};
+ghost use Prim.Native.Nat.{_+_, _/_, _^_, _<_};
+ghost use Rattle.loc_leaf.specs.Slot.{storedAsZero};
 ghost use Rattle.loc_calls.specs.Table.{batch, valueOf, bodyAfter, spanAfter, spanless, breaks, entryRefusal};
-ghost use Rattle.loc_batch.specs.Lists.{entryAt, asEntry};
+ghost use Rattle.loc_batch.specs.Lists.{entryAt, asEntry, Held};
 use crate::Record;
 use loc_leaf::Kind;
 use loc_leaf::Value;
 use loc_leaf::delta_loc::saturating_add;
 
-fn number_at(list: &[u64], i: usize) -> u64
-    ensures { λ r. ⌜ r ≡ getD (now (list .entry)) i 0 ⌝ }
-{
-    if i < list.len() { list[i] } else { 0 }
-}
-
-fn count_at(list: &[u32], i: usize) -> u32
-    ensures { λ r. ⌜ r ≡ getD (now (list .entry)) i 0 ⌝ }
-{
-    if i < list.len() { list[i] } else { 0 }
-}
-
+// Each kind reads its own lists: in this form the compiler makes the faster loops.
 pub fn record_at(
     kind: Kind,
     starts: &[u64],
@@ -31,18 +20,19 @@ pub fn record_at(
     span_counts: &[u32],
     i: usize,
 ) -> Record
+    requires { ⌜ Held kind (batch (now starts) (now lens) (now «span_starts») (now «span_counts»)) (i + 1) ⌝ }
     ensures { λ r. ⌜ asEntry r ≡ entryAt kind (batch (now (starts .entry)) (now (lens .entry)) (now («span_starts» .entry)) (now («span_counts» .entry))) i ⌝ }
 {
     match kind {
         Kind::Paired => Record {
-            start: number_at(starts, i),
-            len: number_at(lens, i),
-            span_start: number_at(span_starts, i),
-            spans: count_at(span_counts, i),
+            start: starts[i],
+            len: lens[i],
+            span_start: span_starts[i],
+            spans: span_counts[i],
         },
         Kind::Single => Record {
-            start: number_at(starts, i),
-            len: number_at(lens, i),
+            start: starts[i],
+            len: lens[i],
             span_start: 16,
             spans: 0,
         },
@@ -70,6 +60,21 @@ pub fn value_of(e: Record) -> Value
     Value {
         strides: strides as u32,
         spans: e.spans,
+    }
+}
+
+// Whether a value does not fit its place in the slot, so that the record needs a row.
+pub fn is_stored_as_zero(kind: Kind, v: Value) -> bool
+    ensures { λ r. ⌜ r ≡ storedAsZero kind v ⌝ }
+{
+    match kind {
+        Kind::Paired => {
+            if 256 <= v.strides {
+                return true;
+            }
+            256 <= v.spans
+        }
+        Kind::Single => 65536 <= v.strides,
     }
 }
 

@@ -4,21 +4,21 @@ ghost use mathlib.Core.Path.{_≡_};
 ghost use mathlib.Core.List.{flatten};
 ghost use Prim.Native.Nat.{_+_, _/_, _^_, _≤_, _<_};
 ghost use lib.ListN.{length};
-ghost use Rattle.loc_leaf.specs.Bytes.{store};
+ghost use Rattle.loc_leaf.specs.Bytes.{bytes, store};
 ghost use Rattle.loc_leaf.specs.Kind.{rowWidth, checkpointWidth};
 ghost use Rattle.loc_leaf.specs.Rows.{row};
 ghost use Rattle.loc_calls.specs.Table.{batch};
 ghost use Rattle.loc_calls.specs.Stores.{checkpoint, slotOf, rowOf, checkpointOf};
-ghost use Rattle.loc_batch.specs.Lists.{entryAt, asEntry, listed, Written, Room, Staged};
+ghost use Rattle.loc_batch.specs.Lists.{entryAt, asEntry, listed, Held, Sound, Written, Room, Staged};
 use crate::Record;
 use crate::entry::body_after;
+use crate::entry::is_stored_as_zero;
 use crate::entry::record_at;
 use crate::entry::span_after;
 use crate::entry::value_of;
 use loc_leaf::Kind;
 use loc_leaf::Value;
 use loc_leaf::delta_loc::checkpoint_width;
-use loc_leaf::delta_loc::needs_row;
 use loc_leaf::delta_loc::pack;
 use loc_leaf::delta_loc::row_width;
 use loc_leaf::file::put_le;
@@ -33,29 +33,36 @@ fn write_slot(out: &mut [u8], to: usize, kind: Kind, id: u64, e: Record) -> usiz
     to + 2
 }
 
+// Lends just the n bytes that are stored: their number is then known, and no byte is tested.
+fn put_part(out: &mut [u8], to: usize, n: usize, v: u64)
+    requires { ⌜ to + n ≤ length (now out) ⌝ }
+    ensures { λ _. ⌜ now (out .exit) ≡ store to (bytes n v) (now (out .entry)) ⌝ }
+{
+    put_le(&mut out[to..to + n], 0, n, v);
+}
+
 fn put_row(out: &mut [u8], to: usize, kind: Kind, id: u64, v: Value)
     requires { ⌜ to + rowWidth kind ≤ length (now out) ⌝ }
     ensures { λ _. ⌜ now (out .exit) ≡ store to (row kind id v) (now (out .entry)) ⌝ }
 {
     let strides = v.strides as u64;
     let spans = v.spans as u64;
-    put_le(out, to, 8, id);
-    put_le(out, to + 8, 4, strides);
+    put_part(out, to, 8, id);
+    put_part(out, to + 8, 4, strides);
     match kind {
         Kind::Paired => {
-            put_le(out, to + 12, 4, spans);
+            put_part(out, to + 12, 4, spans);
         }
         Kind::Single => {}
     }
 }
 
 fn write_row(out: &mut [u8], to: usize, kind: Kind, id: u64, e: Record) -> usize
-    requires { ⌜ (to + length (flatten (rowOf kind id (asEntry e))) ≤ length (now out)) × (e .len / 8 < 2 ^ 32) ⌝ }
+    requires { ⌜ (to + length (flatten (rowOf kind id (asEntry e))) ≤ length (now out)) × Sound kind (asEntry e) ⌝ }
     ensures { λ r. ⌜ Written (now (out .entry)) to (rowOf kind id (asEntry e)) (now (out .exit)) r ⌝ }
 {
     let v = value_of(e);
-    let slot = pack(kind, v);
-    if needs_row(kind, slot[0], slot[1]) {
+    if is_stored_as_zero(kind, v) {
         put_row(out, to, kind, id, v);
         return to + row_width(kind);
     }
@@ -68,10 +75,10 @@ fn put_checkpoint(out: &mut [u8], to: usize, kind: Kind, e: Record)
 {
     let body = body_after(e);
     let span = span_after(e);
-    put_le(out, to, 8, body);
+    put_part(out, to, 8, body);
     match kind {
         Kind::Paired => {
-            put_le(out, to + 8, 8, span);
+            put_part(out, to + 8, 8, span);
         }
         Kind::Single => {}
     }
@@ -103,6 +110,7 @@ pub fn write_batch(
     base: u64,
 )
     requires { ⌜ Room kind base n (listed (entryAt kind (batch (now starts) (now lens) (now «span_starts») (now «span_counts»))) 0 n) (length (now slots)) (length (now rows)) (length (now checkpoints)) ⌝ }
+    requires { ⌜ Held kind (batch (now starts) (now lens) (now «span_starts») (now «span_counts»)) n ⌝ }
     ensures { λ _. ⌜ Staged kind base (listed (entryAt kind (batch (now (starts .entry)) (now (lens .entry)) (now («span_starts» .entry)) (now («span_counts» .entry)))) 0 n)
         (now (slots .entry)) (now (rows .entry)) (now (checkpoints .entry)) (now (slots .exit)) (now (rows .exit)) (now (checkpoints .exit)) ⌝ }
 {

@@ -21,7 +21,7 @@ fn two(a: u8, b: u8) -> u16
     a as u16 + b as u16 * 0x100
 }
 
-fn four(a: u8, b: u8, c: u8, d: u8) -> u32
+pub fn four(a: u8, b: u8, c: u8, d: u8) -> u32
     ensures { λ r. ⌜ r ≡ a + b * 0x100 + c * 0x1_0000 + d * 0x100_0000 ⌝ }
 {
     a as u32 + b as u32 * 0x100 + c as u32 * 0x1_0000 + d as u32 * 0x100_0000

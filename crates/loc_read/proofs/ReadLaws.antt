@@ -1,12 +1,13 @@
 -- A reading in the form in which the code meets it: number, value and answer buffer at once.
 -- 1, 6; 15, 16; 17; then an answer for each wanted number.
 use Prim.Native.Nat.{ℕ, _+_, _-_, _*_, _^_, _≤_, _<_}
-use mathlib.Core.Path.{_≡_, refl, sym, _∙_}
+use mathlib.Core.Path.{_≡_, refl, sym, ap, _∙_}
 use mathlib.Core.Bool.{not}
 use mathlib.Core.List.{List, _++_}
 use native.Mathlib.Omega.{arith}
 use lib.Dec.{ltb}
-use lib.ListN.{length, take, drop, replicate, length-replicate}
+use lib.ListN.{length, take, drop, replicate, length-drop, length-replicate, take-append-drop}
+use lib.Seq.{ext-getD, getD-drop}
 use borrow.Author.Tests.{lt-ltb, le-ltb}
 use Rattle.loc_leaf.specs.declared.Kind.{Kind}
 use Rattle.loc_leaf.specs.declared.Kind.the-variants.{Paired, Single}
@@ -14,18 +15,32 @@ use Rattle.loc_leaf.specs.Bytes.{Bytes}
 use Rattle.loc_leaf.specs.Answers.{refuse, _orElse_}
 use Rattle.loc_leaf.specs.Area.{fill}
 use Rattle.loc_leaf.specs.Kind.{rowWidth}
+use Rattle.loc_leaf.proofs.AreaLaws.{counted-le}
 use Rattle.loc_leaf.proofs.Refusals.{orElse-first}
 use Rattle.loc_calls.specs.Areas.{Areas, areas, count}
 use Rattle.loc_calls.specs.Table.{read, table, wordWidth}
 use Rattle.loc_calls.specs.Stores.{settled}
-use Rattle.loc_calls.specs.Reading.{anyMissing, found}
+use Rattle.loc_calls.specs.Reading.{within, anyMissing, found}
 use Rattle.loc_calls.specs.Calls.{tooSmall, unread, isOpening, refusal, call}
 use Rattle.loc_calls.specs.Promises.{Read}
 use Rattle.loc_calls.proofs.Outcomes.{read-refused, read-accepted, refusal-after}
+use Rattle.loc_order.specs.Order.{All}
+use Rattle.loc_order.specs.Keys.{places, KeyOf}
+use Rattle.loc_order.proofs.KeyLaws.{places-length, found-all}
+use Rattle.loc_answer.specs.Words.{SamePast}
 use Rattle.loc_answer.proofs.AnswerLaws.{answered-is}
 use Rattle.loc_store.proofs.SettledLaws.{accepted-sized, accepted-ascends}
 use Rattle.loc_read.specs.Walk.{Readable, Answered, Finished}
 use Rattle.loc_read.specs.Read.{Tested}
+use Rattle.loc_read.proofs.RunLaws.{key-within, own-number}
+
+-- words that are as they were from a place on
+straight : (x : ℕ) (old new : List ℕ) → length new ≡ length old → SamePast x old new → new ≡ take x new ++ drop x old
+straight x old new long same =
+    sym (take-append-drop x new)
+    ∙ ap (λ (l : List ℕ). take x new ++ l)
+    (ext-getD 0 (drop x new) (drop x old) (length-drop x new ∙ ap (λ (n : ℕ). n - x) long ∙ sym (length-drop x old))
+    (λ i h. getD-drop x new i 0 ∙ same (x + i) (omega arith) ∙ sym (getD-drop x old i 0)))
 
 module _ (k : Kind) (a : Areas) (ids out : List ℕ) where
   -- 1 or 6
@@ -70,6 +85,14 @@ module _ (k : Kind) (a : Areas) (ids out : List ℕ) where
           read-accepted k a ids out v new (tested-number ∙ sym (f .refused) ∙ z) (rw (← em) ev)
           (answered-is k a ids stage out new (rw (← ew) long) (f .answered z) (rw (← ew) en))
 
+    -- answers that went straight into the buffer
+    pub read-own : (n : ℕ) (new : List ℕ) → n ≡ fill 2 (a .slots) → All (KeyOf n ids) (places 0 (length ids)) → Finished k a ids new 0 → length new ≡ length out
+        → SamePast (wordWidth k * length ids) out new → Read (call k 0 (read ids out) a) (record { number = 0; value = length ids }) new
+    read-own n new en ks f long same =
+        read-done 0 new f (wordWidth k) n (length ids) new refl refl (omega (arith, t .room)) en
+        (sym (found-all n ids (λ p h. ap (within n) (sym (own-number ids (t .few) p h)) ∙ key-within n ids (places 0 (length ids)) ks p (omega (arith, places-length 0 (length ids))))))
+        (straight (wordWidth k * length ids) out new long same)
+
 -- what the walk asks
 pub readable : (k : Kind) (s r c : Bytes) (ids out : List ℕ) (n nr : ℕ) → Tested k (areas s r c) ids out → n ≡ fill 2 s → 2 * n ≤ length s - 16 → length s < 2 ^ 64
     → nr ≡ fill (rowWidth k) r → Readable k (areas s r c) n nr
@@ -84,6 +107,10 @@ readable k s r c ids out n nr t en h l er =
   where
     hold : 16 ≤ length s
     hold = accepted-sized k s r c 0 (t .opened) refl .slotsHold
+
+pub slots-room : (s : Bytes) → 2 * fill 2 s ≤ length s - 16
+unfolding fill
+slots-room s = omega (arith, counted-le s)
 
 -- words that fit, by the width that the code has
 pub words-fit : (w v l x y : ℕ) → w ≡ v → v * l ≤ x → y ≡ x → w * l ≤ y

@@ -18,9 +18,11 @@ use Rattle.loc_leaf.specs.Kind.{windowOf, withinWindow}
 use Rattle.loc_leaf.proofs.Booleans.{both-left, both-right}
 use Rattle.loc_calls.specs.Reading.{before, lookedAt, within}
 use Rattle.loc_order.specs.Order.{All}
-use Rattle.loc_order.specs.Keys.{placeOf, wantedBy, KeyOf}
-use Rattle.loc_order.proofs.OrderLaws.{all-at}
-use Rattle.loc_read.specs.Runs.{IsRun}
+use Rattle.loc_order.specs.Keys.{places, placeOf, wantedBy, KeyOf}
+use Rattle.loc_order.proofs.OrderLaws.{all-at, all-of}
+use Rattle.loc_order.proofs.KeyLaws.{places-length, places-at}
+use Rattle.loc_answer.specs.Words.{AllSome}
+use Rattle.loc_read.specs.Runs.{IsRun, OneRun}
 
 -- ---- looked at
 
@@ -43,11 +45,46 @@ unfolding lookedAt
 looked-few Paired n id = omega arith
 looked-few Single n id = omega arith
 
+-- of two numbers of a window the larger looks at no fewer
+looked-more : (k : Kind) (n a b : ℕ) → windowOf a ≡ windowOf b → a ≤ b → lookedAt k n a ≤ lookedAt k n b
+unfolding lookedAt
+looked-more Paired n a b e h = omega arith
+looked-more Single n a b e h = rw e (le-refl _)
+
+pub larger-window : (a b r w : ℕ) → r ≡ max a b → windowOf a ≡ w → windowOf b ≡ w → windowOf r ≡ w
+larger-window a b r w q e g = go (decLe a b)
+  where
+    go : Dec (a ≤ b) → windowOf r ≡ w
+    go (yes h) = let z : r ≡ b = omega arith in ap windowOf z ∙ g
+    go (no h) = let z : r ≡ a = omega arith in ap windowOf z ∙ e
+
+looked-larger : (k : Kind) (n a b r : ℕ) → windowOf a ≡ windowOf b → r ≡ max a b → lookedAt k n r ≡ max (lookedAt k n a) (lookedAt k n b)
+looked-larger k n a b r e q = go (decLe a b)
+  where
+    go : Dec (a ≤ b) → lookedAt k n r ≡ max (lookedAt k n a) (lookedAt k n b)
+    go (yes h) =
+        let z : r ≡ b = omega arith in
+        ap (lookedAt k n) z ∙ omega (arith, looked-more k n a b e h)
+    go (no h) =
+        let z : r ≡ a = omega arith in
+        let l : b ≤ a = omega arith in
+        ap (lookedAt k n) z ∙ omega (arith, looked-more k n b a (sym e) l)
+
 -- nothing past the count
 pub looked-counted : (k : Kind) (n id : ℕ) → 0 < id → id ≤ n → before id + lookedAt k n id ≤ n
 unfolding lookedAt
 looked-counted Paired n id h g = omega arith
 looked-counted Single n id h g = omega arith
+
+-- ---- a record's number
+
+pub within-some : (n id : ℕ) → within n id ≡ true → 0 < id
+unfolding within
+within-some n id e = ltb-true 0 id (both-left (ltb 0 id) (leb id n) e)
+
+pub within-counted : (n id : ℕ) → within n id ≡ true → id ≤ n
+unfolding within
+within-counted n id e = leb-true id n (both-right (ltb 0 id) (leb id n) e)
 
 -- ---- keys
 
@@ -55,16 +92,14 @@ module _ (n : ℕ) (ids keys : List ℕ) (a : All (KeyOf n ids) keys) (t : ℕ) 
   pub key-there : placeOf (getD keys t 0) < length ids
   key-there = all-at (KeyOf n ids) keys a t h .place
 
-  key-inside : within n (wantedBy ids keys t) ≡ true
-  key-inside = all-at (KeyOf n ids) keys a t h .inside
+  pub key-within : within n (wantedBy ids keys t) ≡ true
+  key-within = all-at (KeyOf n ids) keys a t h .inside
 
   pub key-some : (id : ℕ) → id ≡ wantedBy ids keys t → 0 < id
-  unfolding within
-  key-some id e = rw e (ltb-true 0 (wantedBy ids keys t) (both-left (ltb 0 (wantedBy ids keys t)) (leb (wantedBy ids keys t) n) key-inside))
+  key-some id e = rw e (within-some n (wantedBy ids keys t) key-within)
 
   pub key-counted : (id : ℕ) → id ≡ wantedBy ids keys t → id ≤ n
-  unfolding within
-  key-counted id e = rw e (leb-true (wantedBy ids keys t) n (both-right (ltb 0 (wantedBy ids keys t)) (leb (wantedBy ids keys t) n) key-inside))
+  key-counted id e = rw e (within-counted n (wantedBy ids keys t) key-within)
 
 -- ---- runs
 
@@ -163,3 +198,62 @@ module _ (k : Kind) (n : ℕ) (ids keys : List ℕ) (from stamp : ℕ) (mark mar
             mostEnd = omega arith;
             isMost = omega (arith, em, own);
           }
+
+-- ---- a list that is one run, taken in its own order
+
+-- one number more that is a record's
+pub within-next : (n : ℕ) (ids : List ℕ) (p id : ℕ) → id ≡ getD ids p 0 → within n id ≡ true → ((q : ℕ) → q < p → within n (getD ids q 0) ≡ true) → (q : ℕ) → q < p + 1 → within n (getD ids q 0) ≡ true
+within-next n ids p id e w f q h =
+    ⊎-elim
+    (λ (z : q ≡ p). ap (λ (i : ℕ). within n (getD ids i 0)) z ∙ ap (within n) (sym e) ∙ w)
+    (λ (l : q < p). f q l)
+    (eq-or-lt-of-le (omega arith))
+
+module _ (ids : List ℕ) (few : length ids ≤ 1024) where
+  pub own-number : (t : ℕ) → t < length ids → wantedBy ids (places 0 (length ids)) t ≡ getD ids t 0
+  own-number t h = ap (λ (p : ℕ). getD ids p 0) (places-at (length ids) t few h)
+
+pub one-count : (k : Kind) (n n′ : ℕ) (ids : List ℕ) (m : ℕ) (mark : List ℕ) → n ≡ n′ → OneRun k n ids m mark → OneRun k n′ ids m mark
+one-count k n n′ ids m mark e o = subst (λ (i : ℕ). OneRun k i ids m mark) e o
+
+-- no number of it is 0
+pub own-some : (k : Kind) (n : ℕ) (ids : List ℕ) (m : ℕ) (mark : List ℕ) → length ids ≤ 1024 → OneRun k n ids m mark → AllSome ids
+own-some k n ids m mark few o p h =
+    rw (← own-number ids few p h) (key-some n ids (places 0 (length ids)) (o .keys) p (omega (arith, places-length 0 (length ids))) _ refl)
+
+-- its window's begin
+pub own-first : (k : Kind) (n : ℕ) (ids : List ℕ) (m : ℕ) (mark : List ℕ) → length ids ≤ 1024 → OneRun k n ids m mark → (w : ℕ) → w ≡ windowOf (getD ids 0 0) → w ≡ windowOf (wantedBy ids (places 0 (length ids)) 0)
+own-first k n ids m mark few o w e = e ∙ ap windowOf (sym (own-number ids few 0 (o .run .more)))
+
+module _ (k : Kind) (n : ℕ) (ids : List ℕ) (few : length ids ≤ 1024) where
+  abbrev own : List ℕ
+  own = places 0 (length ids)
+
+  own-inside : (t : ℕ) → t < length ids → t < length own
+  own-inside t h = omega (arith, places-length 0 (length ids))
+
+  module _ (mark mark′ : List ℕ) (long : length mark ≡ 128) where
+    pub one-first : (id : ℕ) → 0 < length ids → id ≡ getD ids 0 0 → mark′ ≡ set mark (withinWindow id / 8) 1 → IsRun k n ids own 0 1 (lookedAt k n id) 1 mark′
+    one-first id h e es = run-first k n ids own 0 1 mark mark′ long id (lookedAt k n id) (own-inside 0 h) (e ∙ sym (own-number ids few 0 h)) (omega arith) es
+
+    pub one-next : (id w most most′ p : ℕ) → IsRun k n ids own 0 p (lookedAt k n most) 1 mark → p < length ids → id ≡ getD ids p 0 → w ≡ windowOf (getD ids 0 0) → windowOf most ≡ w → windowOf id ≡ w
+        → most′ ≡ max most id → mark′ ≡ set mark (withinWindow id / 8) 1 → IsRun k n ids own 0 (p + 1) (lookedAt k n most′) 1 mark′
+    one-next id w most most′ p r h e ew em eq el es =
+        run-next k n ids own 0 1 mark mark′ long id w (lookedAt k n most) (lookedAt k n most′) p r (own-inside p h) (e ∙ sym (own-number ids few p h)) (ew ∙ ap windowOf (sym (own-number ids few 0 (omega arith)))) eq
+        (looked-larger k n most id most′ (em ∙ sym eq) el) es
+
+  one-run : (m p : ℕ) (mark : List ℕ) → IsRun k n ids own 0 p m 1 mark → p ≤ length ids → length ids ≤ p → ((q : ℕ) → q < p → within n (getD ids q 0) ≡ true) → OneRun k n ids m mark
+  one-run m p mark r h g f =
+      record {
+        keys = all-of (KeyOf n ids) own (λ t l.
+            let b : t < length ids = omega (arith, places-length 0 (length ids)) in
+            record { place = omega (arith, places-at (length ids) t few b); inside = ap (within n) (own-number ids few t b) ∙ f t (omega arith) });
+        run = subst (λ (i : ℕ). IsRun k n ids own 0 i m 1 mark) e r;
+      }
+    where
+      e : p ≡ length ids
+      e = omega arith
+
+  pub one-run-looked : (m most p : ℕ) (mark : List ℕ) → m ≡ lookedAt k n most → IsRun k n ids own 0 p (lookedAt k n most) 1 mark → p ≤ length ids → length ids ≤ p
+      → ((q : ℕ) → q < p → within n (getD ids q 0) ≡ true) → OneRun k n ids m mark
+  one-run-looked m most p mark e r h g f = one-run m p mark (subst (λ (i : ℕ). IsRun k n ids own 0 p i 1 mark) (sym e) r) h g f

@@ -18,23 +18,23 @@ use Rattle.loc_calls.specs.Areas.{Areas, count}
 use Rattle.loc_calls.specs.Table.{wordWidth}
 use Rattle.loc_calls.specs.Reading.{before, windowEnd, within, rowMissing, anyMissing}
 use Rattle.loc_order.specs.Order.{All, sorted}
-use Rattle.loc_order.specs.Keys.{keysFrom, placeOf, wantedBy, KeyOf}
+use Rattle.loc_order.specs.Keys.{keysFrom, places, placeOf, wantedBy, KeyOf}
 use Rattle.loc_order.proofs.OrderLaws.{all-of}
-use Rattle.loc_order.proofs.KeyLaws.{keys-right, keys-meet}
+use Rattle.loc_order.proofs.KeyLaws.{keys-right, keys-meet, places-at}
 use Rattle.loc_answer.specs.Words.{RunSafe, Agrees, RunPut}
 use Rattle.loc_answer.proofs.AnswerLaws.{zeros-has}
 use Rattle.loc_window.specs.declared.Sums.{Sums}
 use Rattle.loc_window.specs.Window.{placed, complete, Stored, Copied}
 use Rattle.loc_read.specs.Runs.{IsRun}
 use Rattle.loc_read.specs.Walk.{Readable, Summing, rightAt, HasRight, Passing, Answered, Finished}
-use Rattle.loc_read.proofs.RunLaws.{looked-few, looked-counted, key-there, key-some, key-counted}
+use Rattle.loc_read.proofs.RunLaws.{looked-few, looked-counted, key-there, key-some, key-counted, own-number}
 use Rattle.loc_read.proofs.WindowLaws.{summed-known, summed-stored, window-lacks, window-complete, window-summed, window-words}
 
 pub ordered-keys : (n : ℕ) (ids keys : List ℕ) → length ids ≤ 1024 → keys ≡ sorted (keysFrom n 0 ids) → All (KeyOf n ids) keys
 ordered-keys n ids keys h e = subst⁻¹ (All (KeyOf n ids)) e (keys-right n ids h)
 
 -- one entry of the list whose slots lack a row
-pub any-at : (k : Kind) (a : Areas) (ids : List ℕ) (p : ℕ) → p < length ids → rowMissing k a (getD ids p 0) ≡ true → anyMissing k a ids ≡ true
+any-at : (k : Kind) (a : Areas) (ids : List ℕ) (p : ℕ) → p < length ids → rowMissing k a (getD ids p 0) ≡ true → anyMissing k a ids ≡ true
 unfolding anyMissing
 any-at k a [] p h e = absurd (not-suc-le-zero h)
 any-at k a (x ∷ ids) zero h e = rw e refl
@@ -139,6 +139,15 @@ module _ (k : Kind) (a : Areas) (ids : List ℕ) where
   unfolding anyMissing
   none-missing [] h = refl
   none-missing (x ∷ xs) h = rw (h 0 (omega arith), none-missing xs (λ p l. h (suc p) (omega arith))) refl
+
+  -- a list that is one run is answered by its one turn
+  pub finished-own : (old out : List ℕ) → length ids ≤ 1024 → Passing k a ids (places 0 (length ids)) (length ids) old out → Finished k a ids out 0
+  unfolding Answered
+  finished-own old out few w =
+      record {
+        refused = rw (none-missing ids (λ p h. ap (rowMissing k a) (sym (own-number ids few p h)) ∙ w .complete p h)) refl;
+        answered = λ _ p h. subst (HasRight k a ids out) (places-at (length ids) p few h) (w .answers p h);
+      }
 
   module _ (n : ℕ) (keys : List ℕ) (few : length ids ≤ 1024) (isCount : n ≡ count a) (ordered : keys ≡ sorted (keysFrom n 0 ids))
       (i : ℕ) (old out : List ℕ) (w : Passing k a ids keys i old out) (ended : length keys ≤ i) where

@@ -27,7 +27,7 @@ use Rattle.loc_window.specs.declared.Sums.{Sums}
 use Rattle.loc_window.specs.declared.Step.{Step}
 use Rattle.loc_window.specs.declared.Step.the-variants.{Next}
 use Rattle.loc_window.specs.Window.{placed, complete, Rising, After, sumsOf, Right, Ready, Stored, SlotStepped, Copied}
-use Rattle.loc_window.proofs.SumLaws.{all-more}
+use Rattle.loc_window.proofs.SumLaws.{all-more, after-at}
 use Rattle.loc_window.proofs.StepLaws.{slot-next}
 use Rattle.loc_window.proofs.WindowLaws.{after-none, stored-none, complete-same, right-strides, right-spans}
 use Rattle.loc_read.specs.Runs.{IsRun}
@@ -38,20 +38,20 @@ use Rattle.loc_read.proofs.RunLaws.{looked-own, key-some, key-counted}
 
 module _ (k : Kind) (f m : ℕ) (bytes rows : Bytes) (nr : ℕ) (mark : List ℕ) (stamp : ℕ) where
   pub summing-none : (body span : List ℕ) → m ≤ 1024 → f + 1024 < 2 ^ 64 → Rising k rows nr → length bytes ≡ 2048 → length body ≡ 1025 → length span ≡ 1025
-      → Summing k f m bytes rows nr mark stamp 0 (sumsOf 0 0 (nr + 1)) body span
+      → Summing k f m bytes rows nr mark stamp 0 (sumsOf 0 0 (nr + 1) 0) body span
   summing-none body span few low rise eb e₁ e₂ =
       record {
         bound = omega arith;
         bodyLong = e₁;
         spanLong = e₂;
-        ready = subst (λ (i : ℕ). Ready k f bytes rows nr i m (sumsOf 0 0 (nr + 1)) body span) none ready;
+        ready = subst (λ (i : ℕ). Ready k f bytes rows nr i m (sumsOf 0 0 (nr + 1) 0) body span) none ready;
         stored = subst (λ (i : ℕ). Stored k f bytes rows mark stamp i body span) none (stored-none k f bytes rows mark stamp body span);
       }
     where
       none : 0 ≡ min (8 * 0) m
       none = omega arith
 
-      ready : Ready k f bytes rows nr 0 m (sumsOf 0 0 (nr + 1)) body span
+      ready : Ready k f bytes rows nr 0 m (sumsOf 0 0 (nr + 1) 0) body span
       ready =
           record {
             order = omega arith;
@@ -66,20 +66,25 @@ module _ (k : Kind) (f m : ℕ) (bytes rows : Bytes) (nr : ℕ) (mark : List ℕ
 
   module _ (block : ℕ) (s : Sums) (body span : List ℕ) (w : Summing k f m bytes rows nr mark stamp block s body span) where
     pub summing-asks : length mark ≡ 128 → 8 * block < m
-        → ((8 * block < m) × (block < length mark) × Ready k f bytes rows nr (8 * block) m s body span) × Stored k f bytes rows mark stamp (8 * block) body span
+        → ((length mark ≡ 128) × (8 * block < m) × Ready k f bytes rows nr (8 * block) m s body span) × Stored k f bytes rows mark stamp (8 * block) body span
     summing-asks long h = (
-      (h, omega (arith, w .ready .few), subst (λ (i : ℕ). Ready k f bytes rows nr i m s body span) whole (w .ready)),
+      (long, h, subst (λ (i : ℕ). Ready k f bytes rows nr i m s body span) whole (w .ready)),
       subst (λ (i : ℕ). Stored k f bytes rows mark stamp i body span) whole (w .stored),
     )
       where
         whole : min (8 * block) m ≡ 8 * block
         whole = omega arith
 
-    pub summing-next : (r : Step) (t : Sums) (body′ span′ : List ℕ) → 8 * block < m → SlotStepped k f bytes rows mark stamp block m body′ span′ r → r ≡ Next t
-        → length body′ ≡ length body → length span′ ≡ length span → Summing k f m bytes rows nr mark stamp (block + 1) t body′ span′
-    summing-next r t body′ span′ h v e e₁ e₂ =
+    -- blocks grow
+    pub summing-more : (r : Step) (t : Sums) (body′ span′ : List ℕ) → SlotStepped k f bytes rows mark stamp block m body′ span′ r → r ≡ Next t → (block < t .block) × (8 * t .block < m + 8)
+    summing-more r t body′ span′ v e = let n = slot-next k f bytes rows mark stamp block m body′ span′ r v t e in (n .0, n .1)
+
+    pub summing-next : (r : Step) (t : Sums) (body′ span′ : List ℕ) → SlotStepped k f bytes rows mark stamp block m body′ span′ r → r ≡ Next t
+        → length body′ ≡ length body → length span′ ≡ length span
+        → Summing k f m bytes rows nr mark stamp (t .block) (sumsOf (t .strides) (t .spans) (t .row) (t .block)) body′ span′
+    summing-next r t body′ span′ v e e₁ e₂ =
         record {
-          bound = omega arith;
+          bound = more .1;
           bodyLong = e₁ ∙ w .bodyLong;
           spanLong = e₂ ∙ w .spanLong;
           ready =
@@ -91,12 +96,12 @@ module _ (k : Kind) (f m : ℕ) (bytes rows : Bytes) (nr : ℕ) (mark : List ℕ
                 spanRoom = omega (arith, w .ready .spanRoom);
                 numbers = w .ready .numbers;
                 rise = w .ready .rise;
-                after = more .0;
+                after = after-at k f bytes rows _ _ t (more .2);
               };
-          stored = more .1;
+          stored = more .3;
         }
       where
-        more : After k f bytes rows (min (8 * (block + 1)) m) t × Stored k f bytes rows mark stamp (min (8 * (block + 1)) m) body′ span′
+        more : (block < t .block) × (8 * t .block < m + 8) × After k f bytes rows (min (8 * t .block) m) t × Stored k f bytes rows mark stamp (min (8 * t .block) m) body′ span′
         more = slot-next k f bytes rows mark stamp block m body′ span′ r v t e
 
     -- the loop has ended

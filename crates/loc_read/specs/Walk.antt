@@ -31,6 +31,13 @@ pub record Summing (k : Kind) (f m : ℕ) (bytes rows : Bytes) (nr : ℕ) (mark 
   pub ready : Ready k f bytes rows nr (min (8 * block) m) m s body span
   pub stored : Stored k f bytes rows mark stamp (min (8 * block) m) body span
 
+-- all m are
+pub record WindowSummed (k : Kind) (f m : ℕ) (bytes rows : Bytes) (nr : ℕ) (mark : List ℕ) (stamp : ℕ) (body span : List ℕ) : Type 0 where
+  pub block : ℕ
+  pub sums : Sums
+  pub summing : Summing k f m bytes rows nr mark stamp block sums body span
+  pub ended : m ≤ 8 * block
+
 -- the words that are right at a place
 abbrev pub rightAt : Kind → Areas → List ℕ → ℕ → List ℕ
 rightAt k a ids p = wordsFor k a (getD ids p 0)

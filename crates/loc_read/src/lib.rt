@@ -3,6 +3,7 @@
 pub mod read;
 pub mod runs;
 pub mod walk;
+pub mod window;
 
 // Keys up to `end` whose numbers lie in one window, and how many of its records they look at.
 pub struct Run {

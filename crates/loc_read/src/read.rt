@@ -8,7 +8,9 @@ ghost use Rattle.loc_calls.specs.Table.{wordWidth, read};
 ghost use Rattle.loc_calls.specs.Calls.{call};
 ghost use Rattle.loc_calls.specs.Promises.{Read};
 ghost use Rattle.loc_read.specs.Read.{Tested};
+use crate::runs::one_window;
 use crate::walk::finish_range_batch;
+use crate::window::read_window;
 use loc_answer::put::copy_words;
 use loc_answer::words::word_width;
 use loc_leaf::Answer;
@@ -117,6 +119,31 @@ fn read_many(
     )
 }
 
+// What is left once 1, 6, 15 and 16 are tested: numbers of one window, a few numbers, or many.
+fn read_tested(
+    kind: Kind,
+    slots: &[u8],
+    rows: &[u8],
+    checkpoints: &[u8],
+    wanted: &[u64],
+    answers: &mut [u64],
+) -> Answer
+    requires { ⌜ Tested kind (areas (now slots) (now rows) (now checkpoints)) (now wanted) (now answers) ⌝ }
+    ensures { λ r. ⌜ Read (call kind 0 (read (now (wanted .entry)) (now (answers .entry))) (areas (now (slots .entry)) (now (rows .entry)) (now (checkpoints .entry))))
+        r (now (answers .exit)) ⌝ }
+{
+    let mut mark = [0u64; 128];
+    let count = piece_count(slots, 2) as u64;
+    let m = one_window(kind, count, wanted, &mut mark);
+    if m != 0 {
+        return read_window(kind, slots, rows, checkpoints, wanted, m, &mark, answers);
+    }
+    if wanted.len() <= 32 {
+        return read_few(kind, slots, rows, checkpoints, wanted, answers);
+    }
+    read_many(kind, slots, rows, checkpoints, wanted, answers)
+}
+
 // 1, 6; 15, 16, 17; then the answers. The value is how many of the wanted numbers are found.
 pub fn range_batch(
     kind: Kind,
@@ -146,8 +173,5 @@ pub fn range_batch(
             value: 0,
         };
     }
-    if n <= 32 {
-        return read_few(kind, slots, rows, checkpoints, wanted, answers);
-    }
-    read_many(kind, slots, rows, checkpoints, wanted, answers)
+    read_tested(kind, slots, rows, checkpoints, wanted, answers)
 }

@@ -1,18 +1,21 @@
 // The keys of one window: where they end, how many of the window's records they look at, and which blocks they mark.
 // A block is eight records; a stamp marks it for one run, so that marks need no clearing.
 ghost use mathlib.Core.Path.{_≡_};
+ghost use mathlib.Core.Bool.{true};
 ghost use Prim.Native.Nat.{_-_, _/_, _<_, _≤_, min, max};
 ghost use lib.ListN.{length, getD, set};
-ghost use Rattle.loc_leaf.specs.Kind.{withinWindow};
-ghost use Rattle.loc_calls.specs.Reading.{before, lookedAt};
+ghost use Rattle.loc_leaf.specs.Kind.{windowOf, withinWindow};
+ghost use Rattle.loc_calls.specs.Reading.{before, lookedAt, within};
 ghost use Rattle.loc_order.specs.Order.{All};
 ghost use Rattle.loc_order.specs.Keys.{placeOf, wantedBy, KeyOf};
-ghost use Rattle.loc_read.specs.Runs.{IsRun};
+ghost use Rattle.loc_read.specs.Runs.{IsRun, OneRun};
 use crate::Run;
 use loc_leaf::Kind;
 use loc_leaf::delta_loc::LOC_WINDOW;
 use loc_leaf::delta_loc::loc_window;
 use loc_leaf::delta_loc::loc_within;
+use loc_order::keys::in_range;
+use loc_order::larger as larger_number;
 
 fn larger(a: usize, b: usize) -> usize
     ensures { λ r. ⌜ r ≡ max a b ⌝ }
@@ -88,4 +91,46 @@ pub fn run_at(
         end += 1;
     }
     Run { end, m }
+}
+
+// Whether a number is a record's, and lies in a window.
+fn in_window(id: u64, count: u64, w: u64) -> bool
+    ensures { λ r. ⌜ (r ≡ true → (within count id ≡ true) × (windowOf id ≡ w)) ⌝ }
+{
+    if in_range(id, count) {
+        if loc_window(id) == w {
+            return true;
+        }
+    }
+    false
+}
+
+// How many records of its window a list looks at whose numbers all lie in one window, and their blocks marked with 1.
+// 0 where there is no number, one that is no record's, or one of another window.
+pub fn one_window(kind: Kind, count: u64, wanted: &[u64], mark: &mut [u64]) -> usize
+    requires { ⌜ (length (now wanted) ≤ 1024) × (length (now mark) ≡ 128) ⌝ }
+    ensures { λ r. ⌜ ((r ≡ 0 → ⊥) → OneRun kind count (now (wanted .entry)) r (now (mark .exit))) ⌝ }
+{
+    if wanted.len() == 0 {
+        return 0;
+    }
+    let id = wanted[0];
+    if in_range(id, count) {
+        let w = loc_window(id);
+        mark[loc_within(id) / 8] = 1;
+        let mut most = id;
+        let mut p: usize = 1;
+        while p < wanted.len() {
+            let next = wanted[p];
+            if in_window(next, count, w) {
+                mark[loc_within(next) / 8] = 1;
+                most = larger_number(most, next);
+                p += 1;
+            } else {
+                return 0;
+            }
+        }
+        return looked_at(kind, count, most);
+    }
+    0
 }

@@ -21,12 +21,11 @@ use loc_leaf::delta_loc::loc_window;
 use loc_leaf::file::FILE_HEADER_LEN;
 use loc_leaf::file::u64_at;
 use loc_window::Step;
-use loc_window::Sums;
 use loc_window::window::copy_slots;
 use loc_window::window::slot_step;
 
 // Where the bodies of a window begin, or at 8 its spans: 16 in window 0, else as its checkpoint says.
-fn window_end(kind: Kind, checkpoints: &[u8], at: usize, w: u64) -> u64
+pub fn window_end(kind: Kind, checkpoints: &[u8], at: usize, w: u64) -> u64
     requires { ⌜ (at ≤ 8) × (w < 2 ^ 56) ⌝ }
     ensures { λ r. ⌜ ((s t : Bytes) → at + 8 ≤ checkpointWidth kind → r ≡ windowEnd kind (areas s t (now (checkpoints .entry))) at w) ⌝ }
 {
@@ -71,11 +70,9 @@ pub fn finish_range_batch(
             2 * m,
             &mut bytes,
         );
-        let mut s = Sums {
-            strides: 0,
-            spans: 0,
-            row: row_count + 1,
-        };
+        let mut strides: u64 = 0;
+        let mut spans: u64 = 0;
+        let mut row = row_count + 1;
         let mut block: usize = 0;
         while 8 * block < m {
             let step = slot_step(
@@ -88,14 +85,18 @@ pub fn finish_range_batch(
                 rows,
                 row_count,
                 first,
-                s,
+                strides,
+                spans,
+                row,
                 &mut body,
                 &mut span,
             );
             match step {
                 Step::Next(t) => {
-                    s = t;
-                    block += 1;
+                    strides = t.strides;
+                    spans = t.spans;
+                    row = t.row;
+                    block = t.block;
                 }
                 Step::Lack => {
                     number = 17;

@@ -1,6 +1,9 @@
 pub mod BlockLaws
+pub mod MaskLaws
 pub mod PassedLaws
+pub mod RowsLaws
 pub mod SumLaws
-pub mod PairLaws
+pub mod RecordLaws
 pub mod StepLaws
+pub mod BlocksLaws
 pub mod WindowLaws

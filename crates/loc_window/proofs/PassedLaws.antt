@@ -20,10 +20,6 @@ use Rattle.loc_window.specs.Window.{Passed, Rising}
 -- ---- the rows up to a number
 
 module _ (rs : List Bytes) (a : ascending 0 rs ≡ true) (id : ℕ) where
-  -- the rows that a search counts are numbered up to id
-  pub counted-passed : (r : ℕ) → r ≡ rowsUpToByHalves id rs → (i : ℕ) → i < r → numberIn rs i ≤ id
-  counted-passed r e i h = by-halves-parts rs a id .upTo i (omega arith)
-
   -- rows that are passed, where the next is numbered above id, are those that a search counts
   pub moved-there : (p : ℕ) → p ≤ length rs → ((i : ℕ) → i < p → numberIn rs i ≤ id) → (p < length rs → id < numberIn rs p) → p ≡ rowsUpToByHalves id rs
   moved-there p h up past = parts-same id rs p (rowsUpToByHalves id rs) (record { inside = h; upTo = up; above = above }) (by-halves-parts rs a id)

@@ -13,18 +13,14 @@ use lib.Seq.{getD-take, getD-drop, getD-append-add, getD-set-same, getD-set-othe
 use Rattle.loc_leaf.specs.declared.Kind.{Kind}
 use Rattle.loc_leaf.specs.declared.Kind.the-variants.{Paired, Single}
 use Rattle.loc_leaf.specs.declared.Value.{Value}
-use Rattle.loc_leaf.specs.declared.delta_loc.Lookup.{Lookup}
 use Rattle.loc_leaf.specs.declared.delta_loc.Lookup.the-variants.{Found, Missing}
 use Rattle.loc_leaf.specs.Bytes.{Bytes, byte}
 use Rattle.loc_leaf.specs.Slot.{needsRow, inline, slotAt}
-use Rattle.loc_leaf.specs.Rows.{rowList, lookup, slotValue, rowsUpToByHalves, lookupByHalves, ascending}
+use Rattle.loc_leaf.specs.Rows.{rowList, rowValue, lookup, slotValue, lookupByHalves, ascending}
 use Rattle.loc_leaf.proofs.RowLaws.{lookup-by-halves}
 use Rattle.loc_calls.specs.Reading.{sumAfter, allAfter, lookupAt, has, valueIn, valueAt, stridesAfter, spansAfter}
 use Rattle.loc_window.specs.declared.Sums.{Sums}
-use Rattle.loc_window.specs.declared.Step.{Step}
-use Rattle.loc_window.specs.declared.Step.the-variants.{Next, Lack}
-use Rattle.loc_window.specs.Window.{placed, complete, Passed, Rising, After, plusValue, Got, GotStep, slotOf, Stepped, Right, Written}
-use Rattle.loc_window.proofs.PassedLaws.{counted-passed}
+use Rattle.loc_window.specs.Window.{placed, complete, Passed, After, sumsOf, plusValue, IsRow, slotOf, Right, Written}
 
 -- ---- over the numbers that follow
 
@@ -68,11 +64,11 @@ module _ (k : Kind) (f : ℕ) (bytes rows : Bytes) where
       slot-two k (rowList k rows) (f + suc j) (slotAt (replicate (16 + 2 * f) 0 ++ bytes) (f + suc j)) (byte (2 * j) bytes) (byte (2 * j + 1) bytes)
       (slot-byte j 0 (omega arith) ∙ ap (λ (n : ℕ). byte n bytes) (add-zero (2 * j))) (slot-byte j 1 (omega arith))
 
-  pub lookup-inline : (j : ℕ) → needsRow k (slotOf bytes j) ≡ false → lookupAt k (placed f bytes rows) (f + suc j) ≡ Found (inline k (slotOf bytes j))
+  lookup-inline : (j : ℕ) → needsRow k (slotOf bytes j) ≡ false → lookupAt k (placed f bytes rows) (f + suc j) ≡ Found (inline k (slotOf bytes j))
   unfolding slotValue
   lookup-inline j e = lookup-is j ∙ ap (λ (b : Bool). cond b (lookup k (f + suc j) (rowList k rows)) (Found (inline k (slotOf bytes j)))) e
 
-  pub lookup-row : (j : ℕ) → ascending 0 (rowList k rows) ≡ true → needsRow k (slotOf bytes j) ≡ true
+  lookup-row : (j : ℕ) → ascending 0 (rowList k rows) ≡ true → needsRow k (slotOf bytes j) ≡ true
       → lookupAt k (placed f bytes rows) (f + suc j) ≡ lookupByHalves k (f + suc j) (rowList k rows)
   unfolding slotValue
   lookup-row j a e =
@@ -84,7 +80,7 @@ module _ (k : Kind) (f : ℕ) (bytes rows : Bytes) where
   pub passed-more : (p id id′ : ℕ) → id ≤ id′ → Passed (rowList k rows) p id → Passed (rowList k rows) p id′
   passed-more p id id′ h w g i l = omega (arith, w g i l)
 
-  pub after-next : (n : ℕ) (s : Sums) (v : Value) (row : ℕ) → After k f bytes rows n s → lookupAt k (placed f bytes rows) (f + suc n) ≡ Found v
+  after-next : (n : ℕ) (s : Sums) (v : Value) (row : ℕ) → After k f bytes rows n s → lookupAt k (placed f bytes rows) (f + suc n) ≡ Found v
       → v .strides < 2 ^ 32 → v .spans < 2 ^ 32 → Passed (rowList k rows) row (f + (n + 1)) → After k f bytes rows (n + 1) (plusValue s v row)
   unfolding stridesAfter spansAfter sumAfter valueAt valueIn has
   after-next n s v row w e hs hp p =
@@ -97,9 +93,21 @@ module _ (k : Kind) (f : ℕ) (bytes rows : Bytes) where
         passed = p;
       }
 
-  pub lack-next : (n : ℕ) → lookupAt k (placed f bytes rows) (f + suc n) ≡ Missing → complete k (placed f bytes rows) f (n + 1) ≡ false
+  lack-next : (n : ℕ) → lookupAt k (placed f bytes rows) (f + suc n) ≡ Missing → complete k (placed f bytes rows) f (n + 1) ≡ false
   unfolding has
   lack-next n e = all-next (λ i. has (lookupAt k (placed f bytes rows) i)) f n false (ap has e) ∙ and-false (complete k (placed f bytes rows) f n)
+
+  -- the same sums, counted as other blocks
+  pub after-at : (n block : ℕ) (s : Sums) → After k f bytes rows n s → After k f bytes rows n (sumsOf (s .strides) (s .spans) (s .row) block)
+  after-at n block s w =
+      record {
+        known = w .known;
+        isStrides = w .isStrides;
+        isSpans = w .isSpans;
+        stridesLow = w .stridesLow;
+        spansLow = w .spansLow;
+        passed = w .passed;
+      }
 
   -- the sums are small
   pub after-small : (n : ℕ) (s : Sums) → n ≤ 1024 → After k f bytes rows n s → (s .strides < 2 ^ 43) × (s .spans < 2 ^ 43)
@@ -113,27 +121,19 @@ module _ (k : Kind) (f : ℕ) (bytes rows : Bytes) where
       (after-next n s v (s .row) w (lookup-inline n plain ∙ ap (λ (u : Value). Found u) (sym ev)) hs hp
       (passed-more (s .row) (f + n) (f + (n + 1)) (omega arith) (w .passed)))
 
-  -- a record by its row
-  pub step-row : (n id : ℕ) (s : Sums) (r : Step) → ascending 0 (rowList k rows) ≡ true → needsRow k (slotOf bytes n) ≡ true → id ≡ f + suc n → After k f bytes rows n s
-      → GotStep k rows id s r → Stepped k f bytes rows (n + 1) (n + 1) r
-  step-row n id s (Next t) a needs e w g =
-      let there : lookupAt k (placed f bytes rows) (f + suc n) ≡ Found (g .value) = lookup-row n a needs ∙ ap (λ (i : ℕ). lookupByHalves k i (rowList k rows)) (sym e) ∙ g .isFound in
-      let q : id ≤ f + (n + 1) = omega arith in
-      rw (g .isSum) (after-next n s (g .value) (t .row) w there (g .stridesLow) (g .spansLow) (passed-more (t .row) id (f + (n + 1)) q (g .passed)))
-  step-row n id s Lack a needs e w g = lack-next n (lookup-row n a needs ∙ ap (λ (i : ℕ). lookupByHalves k i (rowList k rows)) (sym e) ∙ g)
+  -- a record by its row, which is row r
+  module _ (n id : ℕ) (a : ascending 0 (rowList k rows) ≡ true) (needs : needsRow k (slotOf bytes n) ≡ true) (e : id ≡ f + suc n) where
+    by-row : lookupAt k (placed f bytes rows) (f + suc n) ≡ lookupByHalves k id (rowList k rows)
+    by-row = lookup-row n a needs ∙ ap (λ (i : ℕ). lookupByHalves k i (rowList k rows)) (sym e)
 
--- the row that was found
-pub got : (k : Kind) (rows : Bytes) (count p id : ℕ) (s t : Sums) (v : Value) (l : Lookup) → Rising k rows count → p ≡ rowsUpToByHalves id (rowList k rows) → l ≡ lookupByHalves k id (rowList k rows)
-    → l ≡ Found v → t ≡ plusValue s v p → v .strides < 2 ^ 32 → v .spans < 2 ^ 32 → Got k rows id s t
-got k rows count p id s t v l r ep el ef et hs hp =
-    record {
-      value = v;
-      isFound = sym el ∙ ef;
-      isSum = rw et refl;
-      stridesLow = hs;
-      spansLow = hp;
-      passed = λ _ i h. counted-passed (rowList k rows) (r .ascend) id p ep i (rw et at h);
-    }
+    pub step-row : (r : ℕ) (s : Sums) (v : Value) → After k f bytes rows n s → IsRow k rows id r → v ≡ rowValue k (getD (rowList k rows) r []) → v .strides < 2 ^ 32 → v .spans < 2 ^ 32
+        → After k f bytes rows (n + 1) (plusValue s v (r + 1))
+    step-row r s v w g ev hs hp =
+        let q : id ≤ f + (n + 1) = omega arith in
+        after-next n s v (r + 1) w (by-row ∙ g .isFound ∙ ap (λ (u : Value). Found u) (sym ev)) hs hp (passed-more (r + 1) id (f + (n + 1)) q (g .passed))
+
+    pub lacks-row : lookupByHalves k id (rowList k rows) ≡ Missing → complete k (placed f bytes rows) f (n + 1) ≡ false
+    lacks-row m = lack-next n (by-row ∙ m)
 
 -- ---- sums that are stored
 
@@ -206,10 +206,3 @@ module _ (k : Kind) (f : ℕ) (bytes rows : Bytes) where
           (getD-set-other body (n + 1) j (s .strides) 0 (λ e. omega arith)) (getD-set-other span (n + 1) j (s .spans) 0 (λ e. omega arith))
           (w .right j h (omega arith)))
           (eq-or-lt-of-le g)
-
-  -- a step by its case
-  pub stepped-next : (n m : ℕ) (t : Sums) (r : Step) → r ≡ Next t → Stepped k f bytes rows n m r → After k f bytes rows n t
-  stepped-next n m t r e g = subst (Stepped k f bytes rows n m) e g
-
-  pub stepped-lack : (n m m′ : ℕ) (r : Step) → r ≡ Lack → m ≤ m′ → Stepped k f bytes rows n m r → complete k (placed f bytes rows) f m′ ≡ false
-  stepped-lack n m m′ r e h g = all-more (λ i. has (lookupAt k (placed f bytes rows) i)) f m m′ (subst (Stepped k f bytes rows n m) e g) h

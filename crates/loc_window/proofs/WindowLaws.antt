@@ -22,7 +22,7 @@ use Rattle.loc_window.proofs.SumLaws.{slot-two, lookup-is}
 -- ---- the begin
 
 module _ (k : Kind) (f : ℕ) (bytes rows : Bytes) where
-  pub after-none : (count : ℕ) → Rising k rows count → After k f bytes rows 0 (sumsOf 0 0 (count + 1))
+  pub after-none : (count : ℕ) → Rising k rows count → After k f bytes rows 0 (sumsOf 0 0 (count + 1) 0)
   unfolding allAfter stridesAfter spansAfter sumAfter
   after-none count r =
       record {
@@ -72,12 +72,12 @@ module _ (k : Kind) (a : Areas) (f m : ℕ) (bytes old : Bytes) (w : Copied (a .
       all-same (λ i. has (lookupAt k (placed f bytes (a .rows)) i)) (λ i. has (lookupAt k a i)) f m (λ j h. ap has (lookup-same j h)) n l
 
   -- the sums
-  pub strides-same : (n : ℕ) → n ≤ m → stridesAfter k (placed f bytes (a .rows)) f n ≡ stridesAfter k a f n
+  strides-same : (n : ℕ) → n ≤ m → stridesAfter k (placed f bytes (a .rows)) f n ≡ stridesAfter k a f n
   unfolding stridesAfter valueAt
   strides-same n l =
       sum-same (λ i. (valueAt k (placed f bytes (a .rows)) i) .strides) (λ i. (valueAt k a i) .strides) f m (λ j h. ap (λ (v : Lookup). valueIn v .strides) (lookup-same j h)) n l
 
-  pub spans-same : (n : ℕ) → n ≤ m → spansAfter k (placed f bytes (a .rows)) f n ≡ spansAfter k a f n
+  spans-same : (n : ℕ) → n ≤ m → spansAfter k (placed f bytes (a .rows)) f n ≡ spansAfter k a f n
   unfolding spansAfter valueAt
   spans-same n l =
       sum-same (λ i. (valueAt k (placed f bytes (a .rows)) i) .spans) (λ i. (valueAt k a i) .spans) f m (λ j h. ap (λ (v : Lookup). valueIn v .spans) (lookup-same j h)) n l

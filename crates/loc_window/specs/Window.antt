@@ -1,21 +1,22 @@
 -- The sums of one window: of the records that follow record f, whose slots stand in a copy.
 -- They are those of the reading (loc_calls), on areas that have the copied slots in their place.
-use Prim.Native.Nat.{ℕ, _+_, _*_, _/_, _^_, _≤_, _<_, min}
+use Prim.Native.Nat.{ℕ, _+_, _-_, _*_, _/_, _^_, _≤_, _<_, min}
 use mathlib.Core.Path.{_≡_}
-use mathlib.Core.Logic.{_⊎_}
 use mathlib.Core.Bool.{Bool, true, false}
-use mathlib.Core.List.{List, [], _∷_, _++_}
+use mathlib.Core.List.{List, [], _++_}
 use lib.ListN.{length, getD, replicate}
 use Rattle.loc_leaf.specs.declared.Kind.{Kind}
 use Rattle.loc_leaf.specs.Bytes.{Bytes, byte}
-use Rattle.loc_leaf.specs.Slot.{needsRow}
 use Rattle.loc_leaf.specs.Area.{fill}
 use Rattle.loc_leaf.specs.Kind.{rowWidth}
 use Rattle.loc_leaf.specs.declared.Value.{Value}
 use Rattle.loc_leaf.specs.declared.delta_loc.Lookup.the-variants.{Found, Missing}
-use Rattle.loc_leaf.specs.Rows.{rowList, ascending, numberIn, lookupByHalves}
+use Rattle.loc_leaf.specs.Rows.{rowList, rowValue, ascending, numberIn, lookupByHalves}
 use Rattle.loc_calls.specs.Areas.{Areas}
 use Rattle.loc_calls.specs.Reading.{allAfter, lookupAt, has, stridesAfter, spansAfter}
+use Rattle.loc_leaf.specs.Slot.{needsRow}
+pub use Rattle.loc_window.specs.Block.{slotOf}
+use Rattle.loc_window.specs.Block.{rowMask, inlineStrides, inlineSpans}
 use Rattle.loc_window.specs.declared.Sums.{Sums}
 use Rattle.loc_window.specs.declared.Step.{Step}
 use Rattle.loc_window.specs.declared.Step.the-variants.{Next, Lack}
@@ -46,34 +47,23 @@ pub record After (k : Kind) (f : ℕ) (bytes rows : Bytes) (n : ℕ) (s : Sums) 
   pub spansLow : s .spans ≤ n * 2 ^ 32
   pub passed : Passed (rowList k rows) (s .row) (f + n)
 
-abbrev pub sumsOf : ℕ → ℕ → ℕ → Sums
-sumsOf x y row = record { strides = x; spans = y; row = row }
+abbrev pub sumsOf : ℕ → ℕ → ℕ → ℕ → Sums
+sumsOf x y row block = record { strides = x; spans = y; row = row; block = block }
 
 -- the sums with one value more, and a number of rows passed
 abbrev pub plusValue : Sums → Value → ℕ → Sums
-plusValue s v row = record { strides = s .strides + v .strides; spans = s .spans + v .spans; row = row }
+plusValue s v row = record { strides = s .strides + v .strides; spans = s .spans + v .spans; row = row; block = s .block }
 
--- t is s with the value of the row that is numbered id
-pub record Got (k : Kind) (rows : Bytes) (id : ℕ) (s t : Sums) : Type 0 where
-  pub value : Value
-  pub isFound : lookupByHalves k id (rowList k rows) ≡ Found value
-  pub isSum : t ≡ plusValue s value (t .row)
-  pub stridesLow : value .strides < 2 ^ 32
-  pub spansLow : value .spans < 2 ^ 32
-  pub passed : Passed (rowList k rows) (t .row) id
+-- row r is the one that is numbered id, and the rows up to it are passed
+pub record IsRow (k : Kind) (rows : Bytes) (id r : ℕ) : Type 0 where
+  pub isFound : lookupByHalves k id (rowList k rows) ≡ Found (rowValue k (getD (rowList k rows) r []))
+  pub passed : Passed (rowList k rows) (r + 1) id
 
-abbrev pub GotStep : Kind → Bytes → ℕ → Sums → Step → Type 0
-GotStep k rows id s (Next t) = Got k rows id s t
-GotStep k rows id s Lack = lookupByHalves k id (rowList k rows) ≡ Missing
-
--- the two bytes of record j's slot, counted from 0
-abbrev pub slotOf : Bytes → ℕ → Bytes
-slotOf bytes j = byte (2 * j) bytes ∷ byte (2 * j + 1) bytes ∷ []
-
--- a step to n records, or one of the first m lacks its row
-abbrev pub Stepped : Kind → ℕ → Bytes → Bytes → ℕ → ℕ → Step → Type 0
-Stepped k f bytes rows n m (Next s) = After k f bytes rows n s
-Stepped k f bytes rows n m Lack = complete k (placed f bytes rows) f m ≡ false
+-- the place of the row that is numbered id, or the count of rows where there is none
+pub record FoundRow (k : Kind) (rows : Bytes) (count id r : ℕ) : Type 0 where
+  pub inside : r ≤ count
+  pub there : r < count → IsRow k rows id r
+  pub missing : r ≡ count → lookupByHalves k id (rowList k rows) ≡ Missing
 
 -- the sums of j records stand in the arrays
 pub record Right (k : Kind) (f : ℕ) (bytes rows : Bytes) (j : ℕ) (body span : List ℕ) : Type 0 where
@@ -90,13 +80,11 @@ pub record Written (k : Kind) (f : ℕ) (bytes rows : Bytes) (from n : ℕ) (bod
   pub spanKept : (j : ℕ) → j < from → getD span j 0 ≡ getD span₀ j 0
   pub right : (j : ℕ) → from ≤ j → j ≤ n → Right k f bytes rows j body span
 
-abbrev pub Recorded : Kind → ℕ → Bytes → Bytes → ℕ → ℕ → List ℕ → List ℕ → List ℕ → List ℕ → Step → Type 0
-Recorded k f bytes rows from n body₀ span₀ body span (Next s) = After k f bytes rows n s × Written k f bytes rows from n body₀ span₀ body span
-Recorded k f bytes rows from n body₀ span₀ body span Lack = complete k (placed f bytes rows) f n ≡ false
-
--- the records `from` to `plain` of the copy need no row
-abbrev pub Plain : Kind → Bytes → ℕ → ℕ → Type 0
-Plain k bytes from plain = (j : ℕ) → from ≤ j → j < plain → needsRow k (slotOf bytes j) ≡ false
+-- the records `from` to n one by one, counted as so many blocks, or one of them lacks its row
+abbrev pub Recorded : Kind → ℕ → Bytes → Bytes → ℕ → ℕ → ℕ → List ℕ → List ℕ → List ℕ → List ℕ → Step → Type 0
+Recorded k f bytes rows block from n body₀ span₀ body span (Next s) =
+    (s .block ≡ block) × After k f bytes rows n s × Written k f bytes rows from n body₀ span₀ body span
+Recorded k f bytes rows block from n body₀ span₀ body span Lack = complete k (placed f bytes rows) f n ≡ false
 
 -- what a walk over the records `from` to n asks
 pub record Ready (k : Kind) (f : ℕ) (bytes rows : Bytes) (count from n : ℕ) (s : Sums) (body span : List ℕ) : Type 0 where
@@ -111,25 +99,73 @@ pub record Ready (k : Kind) (f : ℕ) (bytes rows : Bytes) (count from n : ℕ) 
 
 -- ---- blocks of eight records
 
--- a block's sums all stand in the arrays, or it was not wanted and the arrays are as they were
-abbrev pub Blocked : Kind → ℕ → Bytes → Bytes → ℕ → ℕ → Type 0 → List ℕ → List ℕ → List ℕ → List ℕ → Step → Type 0
-Blocked k f bytes rows from n wanted body₀ span₀ body span (Next s) =
-    After k f bytes rows n s × (Written k f bytes rows from n body₀ span₀ body span ⊎ ((wanted → ⊥) × (body ≡ body₀) × (span ≡ span₀)))
-Blocked k f bytes rows from n wanted body₀ span₀ body span Lack = complete k (placed f bytes rows) f n ≡ false
+-- what a walk over blocks up to `full` asks
+pub record BlockReady (k : Kind) (f : ℕ) (bytes rows : Bytes) (count full : ℕ) (s : Sums) : Type 0 where
+  pub order : s .block ≤ full
+  pub few : full ≤ 128
+  pub copied : 16 * full ≤ length bytes
+  pub numbers : f + 1024 < 2 ^ 64
+  pub rise : Rising k rows count
+  pub after : After k f bytes rows (8 * s .block) s
+
+-- ---- one block
+
+-- one block more, or one of its records lacks its row
+abbrev pub BlockStepped : Kind → ℕ → Bytes → Bytes → ℕ → Step → Type 0
+BlockStepped k f bytes rows block (Next t) = (t .block ≡ block + 1) × After k f bytes rows (8 * (block + 1)) t
+BlockStepped k f bytes rows block Lack = complete k (placed f bytes rows) f (8 * (block + 1)) ≡ false
+
+-- x and y are what j records add up to, with the bytes of n records more, of which `left` says those that need a row
+pub record Swapping (k : Kind) (f : ℕ) (bytes rows : Bytes) (j n x y row left : ℕ) : Type 0 where
+  pub strides : ℕ
+  pub spans : ℕ
+  pub after : After k f bytes rows j (sumsOf strides spans row 0)
+  pub isStrides : x ≡ strides + inlineStrides k bytes j n
+  pub isSpans : y ≡ spans + inlineSpans k bytes j n
+  pub stridesFew : inlineStrides k bytes j n < 2 ^ 32
+  pub spansFew : inlineSpans k bytes j n < 2 ^ 32
+  pub isLeft : left ≡ rowMask k bytes j n
+
+-- ---- blocks that are not marked
+
+-- the blocks from one on to another are not marked
+abbrev pub Unmarked : List ℕ → ℕ → ℕ → ℕ → Type 0
+Unmarked mark stamp from to = (b : ℕ) → from ≤ b → b < to → getD mark b 0 ≡ stamp → ⊥
+
+-- t is what the blocks before its own add up to, of which those from `block` on are not marked
+pub record BlocksAfter (k : Kind) (f : ℕ) (bytes rows : Bytes) (mark : List ℕ) (stamp block full : ℕ) (t : Sums) : Type 0 where
+  pub more : block ≤ t .block
+  pub inside : t .block ≤ full
+  pub after : After k f bytes rows (8 * t .block) t
+  pub unmarked : Unmarked mark stamp block (t .block)
+
+-- r is s with the bytes of some blocks more, none of which is marked or has a record that needs a row
+pub record PlainBlocks (k : Kind) (bytes : Bytes) (mark : List ℕ) (stamp full : ℕ) (s r : Sums) : Type 0 where
+  pub more : s .block ≤ r .block
+  pub inside : r .block ≤ full
+  pub isStrides : r .strides ≡ s .strides + inlineStrides k bytes (8 * s .block) (8 * (r .block - s .block))
+  pub isSpans : r .spans ≡ s .spans + inlineSpans k bytes (8 * s .block) (8 * (r .block - s .block))
+  pub sameRow : r .row ≡ s .row
+  pub stridesFew : r .strides ≤ s .strides + 2 ^ 19 * (r .block - s .block)
+  pub spansFew : r .spans ≤ s .spans + 2 ^ 19 * (r .block - s .block)
+  pub plain : (i : ℕ) → 8 * s .block ≤ i → i < 8 * r .block → needsRow k (slotOf bytes i) ≡ false
+  pub unmarked : Unmarked mark stamp (s .block) (r .block)
+
+-- a walk over blocks that are not marked, or one of the records before `full` lacks its row
+abbrev pub BlocksPassed : Kind → ℕ → Bytes → Bytes → List ℕ → ℕ → ℕ → ℕ → Step → Type 0
+BlocksPassed k f bytes rows mark stamp block full (Next t) = BlocksAfter k f bytes rows mark stamp block full t
+BlocksPassed k f bytes rows mark stamp block full Lack = complete k (placed f bytes rows) f (8 * full) ≡ false
 
 -- of the first n records, the sums before and after each one of a marked block stand in the arrays
 pub record Stored (k : Kind) (f : ℕ) (bytes rows : Bytes) (mark : List ℕ) (stamp n : ℕ) (body span : List ℕ) : Type 0 where
   pub here : (j : ℕ) → j < n → getD mark (j / 8) 0 ≡ stamp → Right k f bytes rows j body span
   pub next : (j : ℕ) → j < n → getD mark (j / 8) 0 ≡ stamp → Right k f bytes rows (j + 1) body span
 
--- where a block ends, of m records
-abbrev pub blockEnd : ℕ → ℕ → ℕ
-blockEnd block m = min (8 * block + 8) m
-
--- a step to the end of a block, or one of the m records lacks its row
+-- a step past some blocks, all that m records fill at most, or one of the m records lacks its row
 abbrev pub SlotStepped : Kind → ℕ → Bytes → Bytes → List ℕ → ℕ → ℕ → ℕ → List ℕ → List ℕ → Step → Type 0
 SlotStepped k f bytes rows mark stamp block m body span (Next s) =
-    After k f bytes rows (blockEnd block m) s × Stored k f bytes rows mark stamp (blockEnd block m) body span
+    (block < s .block) × (8 * s .block < m + 8)
+    × After k f bytes rows (min (8 * s .block) m) s × Stored k f bytes rows mark stamp (min (8 * s .block) m) body span
 SlotStepped k f bytes rows mark stamp block m body span Lack = complete k (placed f bytes rows) f m ≡ false
 
 -- ---- the copy

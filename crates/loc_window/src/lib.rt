@@ -1,14 +1,17 @@
 // The sums of one window: its slots in a copy, its records' strides and spans added up from the window's begin.
 // This crate is inner: its callers prove what it requires.
 pub mod block;
+pub mod blocks;
+pub mod records;
 pub mod rows;
 pub mod window;
 
-// What the records so far add up to, and how many rows are passed; a number of rows past all of them says nothing.
+// What the records of so many blocks add up to, and how many rows are passed; a number of rows past all of them says nothing.
 pub struct Sums {
     pub strides: u64,
     pub spans: u64,
     pub row: usize,
+    pub block: usize,
 }
 
 // The sums after some records more, or that one of them lacks its row.

@@ -1,6 +1,7 @@
 //! Port and original on the same data in one process: opening, append, truncation, reading, and cost against index size.
-//! bench [--quick]   times are the best of the rounds, in microseconds; the sides take turns in every round
-use host::areas::{empty, Areas, Kind, SLOTS};
+//! bench [--quick] [reading|storing|size|numbers]...   the tables named, all where none is
+//! Times are the best of the rounds, in microseconds; the sides take turns in every round.
+use host::areas::{empty, Areas, Kind, ROWS, SLOTS};
 use host::judge::{Batch, Folder, Judge};
 use host::pick::Pick;
 use host::port;
@@ -11,10 +12,15 @@ use std::time::{Duration, Instant};
 struct Index {
     kind: Kind,
     records: u64,
-    rows: &'static str,
     areas: Areas,
     judge: Judge,
     ends: (u64, u64),
+}
+
+impl Index {
+    fn row_count(&self) -> usize {
+        (u64::from_le_bytes(self.areas[ROWS][8..16].try_into().unwrap()) as usize - 16) / self.kind.widths()[1]
+    }
 }
 
 const DENSITIES: [(&str, u64); 3] = [("none", 0), ("1 %", 100), ("10 %", 10)];
@@ -44,7 +50,7 @@ fn batch(kind: Kind, pick: &mut Pick, n: usize, rows_one_in: u64, ends: &mut (u6
 }
 
 /// An index of so many records, with room for 4,096 more, in memory and in the original's files.
-fn build(kind: Kind, folder: &Folder, records: u64, rows: &'static str, rows_one_in: u64) -> Index {
+fn build(kind: Kind, folder: &Folder, records: u64, rows_one_in: u64) -> Index {
     let widths = kind.widths();
     let all = records as usize + 4096;
     let most_rows = if rows_one_in == 0 { 4096 } else { all / rows_one_in as usize * 2 + 8192 };
@@ -61,7 +67,7 @@ fn build(kind: Kind, folder: &Folder, records: u64, rows: &'static str, rows_one
     folder.put(kind, &areas);
     let judge = Judge::open(kind, folder.dir()).ok().expect("a sound index");
     assert_eq!(judge.count(), records);
-    Index { kind, records, rows, areas, judge, ends }
+    Index { kind, records, areas, judge, ends }
 }
 
 /// Seconds that one call of `f` takes, on average over about `span`.
@@ -83,8 +89,8 @@ fn timed(span: Duration, f: &mut dyn FnMut()) -> f64 {
 }
 
 /// The round that others disturbed least.
-fn best(list: Vec<f64>) -> f64 {
-    list.into_iter().fold(f64::MAX, f64::min)
+fn best(list: &[f64]) -> f64 {
+    list.iter().copied().fold(f64::MAX, f64::min)
 }
 
 fn median(mut list: Vec<f64>) -> f64 {
@@ -92,34 +98,72 @@ fn median(mut list: Vec<f64>) -> f64 {
     list[list.len() / 2]
 }
 
-/// Best times of the sides, which take turns; and the median over the rounds of first over each.
-fn rounds(count: usize, span: Duration, sides: &mut [&mut dyn FnMut()]) -> (Vec<f64>, Vec<f64>) {
-    let mut times = vec![Vec::new(); sides.len()];
-    for _ in 0..count {
-        for (side, list) in sides.iter_mut().zip(&mut times) {
-            list.push(timed(span, *side));
-        }
-    }
-    let ratios = times.iter().map(|list| median(times[0].iter().zip(list).map(|(a, b)| a / b).collect())).collect();
-    (times.into_iter().map(best).collect(), ratios)
+/// The median over the rounds of one side over another.
+fn share(a: &[f64], b: &[f64]) -> f64 {
+    median(a.iter().zip(b).map(|(a, b)| a / b).collect())
 }
 
-fn wanted(n: usize, spread: bool, records: u64, pick: &mut Pick) -> Vec<u64> {
-    let windows = (records / 1024).max(1);
-    let width = records.min(1024);
-    let base = pick.below(windows);
-    let step = windows as f64 / n as f64;
-    let mut list: Vec<u64> = (0..n)
-        .map(|i| {
-            let window = if spread { (i as f64 * step) as u64 + pick.below(step.max(1.0) as u64) } else { base };
-            1024 * window.min(windows - 1) + 1 + pick.below(width)
-        })
-        .collect();
-    // in no order, as they come
-    for i in (1..list.len()).rev() {
-        list.swap(i, pick.size(i + 1));
+/// Times of the sides in each round; they take turns.
+fn rounds(setting: &Setting, sides: &mut [&mut dyn FnMut()]) -> Vec<Vec<f64>> {
+    let mut times = vec![Vec::new(); sides.len()];
+    for _ in 0..setting.rounds {
+        for (side, list) in sides.iter_mut().zip(&mut times) {
+            list.push(timed(setting.span, *side));
+        }
     }
-    list
+    times
+}
+
+/// Which numbers a reading wants, and in which order they come.
+#[derive(Clone, Copy, PartialEq)]
+enum Spread {
+    OneWindow,
+    Rising,
+    AllWindows,
+}
+
+const WORKLOADS: [(usize, Spread); 6] = [
+    (1, Spread::OneWindow),
+    (32, Spread::OneWindow),
+    (32, Spread::AllWindows),
+    (1024, Spread::OneWindow),
+    (1024, Spread::Rising),
+    (1024, Spread::AllWindows),
+];
+
+impl Spread {
+    fn name(self) -> &'static str {
+        match self {
+            Spread::OneWindow => "in 1 window",
+            Spread::Rising => "in 1 window, rising",
+            Spread::AllWindows => "over all windows",
+        }
+    }
+
+    /// Numbers anywhere in one window, or in as many windows as there are numbers, evenly spread; in no order but where they rise.
+    fn wanted(self, n: usize, records: u64, pick: &mut Pick) -> Vec<u64> {
+        let windows = (records / 1024).max(1);
+        let width = records.min(1024);
+        let base = pick.below(windows);
+        let step = windows as f64 / n as f64;
+        let mut list: Vec<u64> = (0..n)
+            .map(|i| {
+                let window = match self {
+                    Spread::AllWindows => (i as f64 * step) as u64 + pick.below(step.max(1.0) as u64),
+                    _ => base,
+                };
+                1024 * window.min(windows - 1) + 1 + pick.below(width)
+            })
+            .collect();
+        if self == Spread::Rising {
+            list.sort_unstable();
+            return list;
+        }
+        for i in (1..list.len()).rev() {
+            list.swap(i, pick.size(i + 1));
+        }
+        list
+    }
 }
 
 /// The original's planning and extraction, with the windows' bytes taken from memory in place of its files.
@@ -151,10 +195,30 @@ fn on_files(judge: &Judge, numbers: &[Fk]) -> usize {
     }
 }
 
-fn reading(index: &Index, n: usize, spread: bool, setting: &Setting) -> (Vec<f64>, Vec<f64>) {
-    let mut pick = Pick::new(n as u64 * 2 + u64::from(spread));
-    let lists = if spread && n > 100 { 8 } else { 64 };
-    let lists: Vec<Vec<u64>> = (0..lists).map(|_| wanted(n, spread, index.records, &mut pick)).collect();
+/// One reading: times in seconds, and the median over the rounds of the port's share in the original's.
+struct Reading {
+    checks: f64,
+    call: f64,
+    memory: f64,
+    whole: f64,
+    read_to_memory: f64,
+    read_to_whole: f64,
+    call_to_memory: f64,
+    call_to_whole: f64,
+}
+
+impl Reading {
+    /// What a call takes after its checks.
+    fn read(&self) -> f64 {
+        self.call - self.checks
+    }
+}
+
+/// The checks of numbers 1 and 6 alone are a call that is refused with 15 just after them.
+fn reading(index: &Index, n: usize, spread: Spread, setting: &Setting) -> Reading {
+    let mut pick = Pick::new(n as u64 * 4 + spread as u64);
+    let lists = if spread == Spread::AllWindows && n > 100 { 8 } else { 64 };
+    let lists: Vec<Vec<u64>> = (0..lists).map(|_| spread.wanted(n, index.records, &mut pick)).collect();
     let numbers: Vec<Vec<Fk>> = lists.iter().map(|list| list.iter().map(|&id| Fk::new(id)).collect()).collect();
     let mut buffer = vec![0u64; index.kind.words() * n];
     for list in &lists {
@@ -162,25 +226,41 @@ fn reading(index: &Index, n: usize, spread: bool, setting: &Setting) -> (Vec<f64
         let (_, words) = index.judge.read(list).ok().expect("every row is there");
         assert_eq!(words, buffer, "port and original answer differently");
     }
+    let too_many = vec![1; 1025];
+    assert_eq!(port::read(index.kind, &index.areas, &too_many, &mut []).0, 15);
     let (mut i, mut j, mut k) = (0, 0, 0);
-    rounds(
-        setting.rounds,
-        setting.span,
+    let times = rounds(
+        setting,
         &mut [
+            &mut || {
+                black_box(port::read(index.kind, &index.areas, black_box(&too_many), &mut []));
+            },
             &mut || {
                 i = (i + 1) % lists.len();
                 black_box(port::read(index.kind, &index.areas, black_box(&lists[i]), &mut buffer));
             },
             &mut || {
                 j = (j + 1) % lists.len();
-                black_box(on_files(&index.judge, black_box(&numbers[j])));
+                black_box(in_memory(&index.judge, &index.areas[SLOTS], black_box(&numbers[j])));
             },
             &mut || {
                 k = (k + 1) % lists.len();
-                black_box(in_memory(&index.judge, &index.areas[SLOTS], black_box(&numbers[k])));
+                black_box(on_files(&index.judge, black_box(&numbers[k])));
             },
         ],
-    )
+    );
+    let [checks, call, memory, whole] = &times[..] else { unreachable!() };
+    let read: Vec<f64> = call.iter().zip(checks).map(|(a, b)| a - b).collect();
+    Reading {
+        checks: best(checks),
+        call: best(call),
+        memory: best(memory),
+        whole: best(whole),
+        read_to_memory: share(&read, memory),
+        read_to_whole: share(&read, whole),
+        call_to_memory: share(call, memory),
+        call_to_whole: share(call, whole),
+    }
 }
 
 struct Setting {
@@ -223,17 +303,15 @@ fn storing(index: &mut Index, n: usize, rows_one_in: u64, setting: &Setting) -> 
         }
     }
     times.map(|[port, original]| {
-        let ratio = median(port.iter().zip(&original).map(|(a, b)| a / b).collect());
-        (best(port), best(original), ratio)
+        (best(&port), best(&original), share(&port, &original))
     })
 }
 
 fn opening(index: &mut Index, folder: &Folder, setting: &Setting) -> (f64, f64, f64) {
     let kind = index.kind;
     let areas = &mut index.areas;
-    let (times, ratios) = rounds(
-        setting.rounds,
-        setting.span,
+    let times = rounds(
+        setting,
         &mut [
             &mut || {
                 black_box(port::open(kind, black_box(areas)));
@@ -243,7 +321,7 @@ fn opening(index: &mut Index, folder: &Folder, setting: &Setting) -> (f64, f64, 
             },
         ],
     );
-    (times[0], times[1], ratios[1])
+    (best(&times[0]), best(&times[1]), share(&times[0], &times[1]))
 }
 
 fn us(seconds: f64) -> String {
@@ -255,10 +333,115 @@ fn us(seconds: f64) -> String {
     }
 }
 
+/// Reading at three sizes: every workload, without rows, with 1 % and with 10 %.
+fn reading_table(folder: &Folder, setting: &Setting) {
+    println!("\n### Reading\n");
+    println!("| kind | records | rows | numbers | checks | read | original, memory | original, files | read / memory | read / files | call / memory | call / files |");
+    println!("|---|---|---|---|---|---|---|---|---|---|---|---|");
+    for kind in [Kind::Paired, Kind::Single] {
+        for records in [1_000, 100_000, 1_000_000] {
+            for (rows, one_in) in DENSITIES {
+                let index = build(kind, folder, records, one_in);
+                for (n, spread) in WORKLOADS {
+                    if records < 1024 && spread == Spread::AllWindows {
+                        continue;
+                    }
+                    let r = reading(&index, n, spread, setting);
+                    println!(
+                        "| {} | {records} | {rows} | {n} {} | {} | {} | {} | {} | {:.2} | {:.2} | {:.2} | {:.2} |",
+                        kind.name(),
+                        spread.name(),
+                        us(r.checks),
+                        us(r.read()),
+                        us(r.memory),
+                        us(r.whole),
+                        r.read_to_memory,
+                        r.read_to_whole,
+                        r.call_to_memory,
+                        r.call_to_whole
+                    );
+                }
+            }
+        }
+    }
+}
+
+fn storing_table(folder: &Folder, setting: &Setting) {
+    println!("\n### Opening, append and truncation, index of 102,400 records\n");
+    println!("| kind | rows | call | port | original, files | port / files |");
+    println!("|---|---|---|---|---|---|");
+    for kind in [Kind::Paired, Kind::Single] {
+        for (rows, one_in) in DENSITIES {
+            let mut index = build(kind, folder, 102_400, one_in);
+            let (a, b, r) = opening(&mut index, folder, setting);
+            println!("| {} | {rows} | open | {} | {} | {r:.2} |", kind.name(), us(a), us(b));
+            for n in [1, 100, 1024] {
+                let both = storing(&mut index, n, one_in, setting);
+                for (name, (a, b, r)) in ["append of", "truncation by"].iter().zip(both) {
+                    println!("| {} | {rows} | {name} {n} | {} | {} | {r:.2} |", kind.name(), us(a), us(b));
+                }
+            }
+        }
+    }
+}
+
+/// How cost grows with the index and its rows.
+fn size_table(folder: &Folder, setting: &Setting) {
+    println!("\n### Cost against index size\n");
+    println!("| kind | rows | records | published rows | checks | ns a row | open: port, files | append of 100: port, files | truncation by 100: port, files | 32 numbers in 1 window: read, memory |");
+    println!("|---|---|---|---|---|---|---|---|---|---|");
+    for kind in [Kind::Paired, Kind::Single] {
+        let mut bare = 0.0;
+        for (rows, one_in) in DENSITIES {
+            for records in [1_000, 10_000, 100_000, 1_000_000, 4_000_000] {
+                let mut index = build(kind, folder, records, one_in);
+                let count = index.row_count();
+                let r = reading(&index, 32, Spread::OneWindow, setting);
+                let (a, b, _) = opening(&mut index, folder, setting);
+                let [(p, q, _), (v, w, _)] = storing(&mut index, 100, one_in, setting);
+                let each = if count == 0 { "".to_string() } else { format!("{:.2}", (r.checks - bare) * 1e9 / count as f64) };
+                if count == 0 {
+                    bare = r.checks;
+                }
+                println!(
+                    "| {} | {rows} | {records} | {count} | {} | {each} | {}, {} | {}, {} | {}, {} | {}, {} |",
+                    kind.name(),
+                    us(r.checks),
+                    us(a),
+                    us(b),
+                    us(p),
+                    us(q),
+                    us(v),
+                    us(w),
+                    us(r.read()),
+                    us(r.memory)
+                );
+            }
+        }
+    }
+}
+
+/// How cost grows with the wanted numbers.
+fn numbers_table(folder: &Folder, setting: &Setting) {
+    println!("\n### Cost against wanted numbers, index of 1,048,576 records without rows\n");
+    println!("| kind | numbers | in 1 window: read, memory | rising: read, memory | over all windows: read, memory |");
+    println!("|---|---|---|---|---|");
+    for kind in [Kind::Paired, Kind::Single] {
+        let index = build(kind, folder, 1 << 20, 0);
+        for n in [1, 2, 4, 8, 16, 32, 33, 64, 128, 256, 512, 1024] {
+            let cells = [Spread::OneWindow, Spread::Rising, Spread::AllWindows].map(|spread| {
+                let r = reading(&index, n, spread, setting);
+                format!("{}, {}", us(r.read()), us(r.memory))
+            });
+            println!("| {} | {n} | {} |", kind.name(), cells.join(" | "));
+        }
+    }
+}
+
 fn main() {
-    let quick = std::env::args().nth(1).as_deref() == Some("--quick");
-    let setting = if quick {
-        Setting { rounds: 3, span: Duration::from_millis(1) }
+    let words: Vec<String> = std::env::args().skip(1).collect();
+    let setting = if words.iter().any(|w| w == "--quick") {
+        Setting { rounds: 5, span: Duration::from_millis(1) }
     } else {
         Setting { rounds: 15, span: Duration::from_millis(6) }
     };
@@ -268,75 +451,12 @@ fn main() {
         setting.rounds,
         folder.place()
     );
-
-    println!("\n### Reading, index of 1,048,576 records\n");
-    println!("| kind | rows | numbers | port | original, files | original, memory | port / files | port / memory |");
-    println!("|---|---|---|---|---|---|---|---|");
-    for kind in [Kind::Paired, Kind::Single] {
-        for (rows, one_in) in DENSITIES {
-            let index = build(kind, &folder, 1 << 20, rows, one_in);
-            for (n, spread) in [(1, false), (1, true), (32, false), (32, true), (1024, false), (1024, true)] {
-                let (t, r) = reading(&index, n, spread, &setting);
-                let place = match (n, spread) {
-                    (1, true) => "in any window".to_string(),
-                    (_, true) => format!("over {n} windows"),
-                    _ => "in 1 window".to_string(),
-                };
-                println!(
-                    "| {} | {} | {n} {place} | {} | {} | {} | {:.2} | {:.2} |",
-                    kind.name(),
-                    index.rows,
-                    us(t[0]),
-                    us(t[1]),
-                    us(t[2]),
-                    r[1],
-                    r[2]
-                );
-            }
-        }
-    }
-
-    println!("\n### Opening, append and truncation, index of 102,400 records\n");
-    println!("| kind | rows | call | port | original, files | port / files |");
-    println!("|---|---|---|---|---|---|");
-    for kind in [Kind::Paired, Kind::Single] {
-        for (rows, one_in) in DENSITIES {
-            let mut index = build(kind, &folder, 102_400, rows, one_in);
-            let (a, b, r) = opening(&mut index, &folder, &setting);
-            println!("| {} | {rows} | open | {} | {} | {r:.2} |", kind.name(), us(a), us(b));
-            for n in [1, 100, 1024] {
-                let both = storing(&mut index, n, one_in, &setting);
-                for (name, (a, b, r)) in ["append of", "truncation by"].iter().zip(both) {
-                    println!("| {} | {rows} | {name} {n} | {} | {} | {r:.2} |", kind.name(), us(a), us(b));
-                }
-            }
-        }
-    }
-
-    println!("\n### Cost against index size\n");
-    println!("| kind | rows | records | open: port, files | append of 100: port, files | truncation by 100: port, files | 32 numbers in 1 window: port, files, memory |");
-    println!("|---|---|---|---|---|---|---|");
-    for kind in [Kind::Paired, Kind::Single] {
-        for (rows, one_in) in DENSITIES {
-            for records in [1_000, 10_000, 100_000, 1_000_000, 4_000_000] {
-                let mut index = build(kind, &folder, records, rows, one_in);
-                let (t, _) = reading(&index, 32, false, &setting);
-                let (a, b, _) = opening(&mut index, &folder, &setting);
-                let [(p, q, _), (v, w, _)] = storing(&mut index, 100, one_in, &setting);
-                println!(
-                    "| {} | {rows} | {records} | {}, {} | {}, {} | {}, {} | {}, {}, {} |",
-                    kind.name(),
-                    us(a),
-                    us(b),
-                    us(p),
-                    us(q),
-                    us(v),
-                    us(w),
-                    us(t[0]),
-                    us(t[1]),
-                    us(t[2])
-                );
-            }
+    let tables: [(&str, fn(&Folder, &Setting)); 4] =
+        [("reading", reading_table), ("storing", storing_table), ("size", size_table), ("numbers", numbers_table)];
+    let named = |w: &String| tables.iter().any(|(name, _)| name == w);
+    for (name, table) in tables {
+        if !words.iter().any(named) || words.iter().any(|w| w == name) {
+            table(&folder, &setting);
         }
     }
 }

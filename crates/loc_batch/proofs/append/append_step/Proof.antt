@@ -5,7 +5,7 @@ use Rattle.loc_batch.proofs.append.append_step.Statement.{statement}
 use Rattle.loc_batch.proofs.append.append_step.Tie as tie
 
 write-bytes-requires : tie.Need-write-bytes-requires
-write-bytes-requires c κs = c .before .before .before .before .before .before .before .before .before .before .before .before .before .pre (c .before .before .before .if1 .taken)
+write-bytes-requires c κs = (c .before .before .before .before .before .before .before .before .before .before .before .before .before .pre .0 (c .before .before .before .if1 .taken), c .before .before .before .before .before .before .before .before .before .before .before .before .before .pre .1)
 
 same-length : tie.Need-same-length
 same-length c = search needs

@@ -29,7 +29,7 @@ unfolding run
 loop-holds c = (omega arith, refl, refl, refl, refl)
 
 append-step-requires : tie.Need-append-step-requires Inv-loop μ-loop
-append-step-requires c κs = room-first _ _ _ _ _ _ (c .before .before .before .before .loop .inv .4) _ _ _ _ (c .before .before .before .before .before .before .before .before .before .before .before .before .before .pre)
+append-step-requires c κs = (room-first _ _ _ _ _ _ (c .before .before .before .before .loop .inv .4) _ _ _ _ (c .before .before .before .before .before .before .before .before .before .before .before .before .before .pre .0), c .before .before .before .before .before .before .before .before .before .before .before .before .before .pre .1)
 
 add-i : tie.Need-add-i Inv-loop μ-loop
 add-i c = search needs

@@ -41,7 +41,7 @@ part-write-batch-end-3 : tie.Need-part-write-batch-end-3
 part-write-batch-end-3 c = search needs
 
 write-batch-requires : tie.Need-write-batch-requires
-write-batch-requires c κs = search (needs, lent-room)
+write-batch-requires c κs = (search (needs, lent-room), search needs)
 
 same-length : tie.Need-same-length
 same-length c = search needs

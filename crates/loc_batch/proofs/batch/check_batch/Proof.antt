@@ -3,7 +3,8 @@ use Prim.Native.Nat.{_-_}
 use borrow.Author.Needs.{needs}
 use native.Mathlib.Omega.{arith}
 use Rattle.loc_calls.specs.Table.{batch}
-use Rattle.loc_batch.proofs.BatchLaws.{Passed, strides-fit, passed-begin, passed-turn, passed-refused, last-refused, last-passed}
+use Rattle.loc_batch.proofs.BatchLaws.{Passed, left-sound, passed-begin, passed-turn, passed-refused, last-refused, last-passed}
+use Rattle.loc_batch.proofs.EntryLaws.{held-at}
 use Rattle.loc_batch.specs.Lists.{entryAt, asEntry}
 use Rattle.loc_batch.proofs.batch.check_batch.Statement.{statement}
 use Rattle.loc_batch.proofs.batch.check_batch.Tie as tie
@@ -15,13 +16,13 @@ abbrev μ-loop : tie.MeasureT-loop
 μ-loop kind starts lens span-starts span-counts n e₀ rows₀ i₀ e rows i = n - i
 
 record-at-requires : tie.Need-record-at-requires Inv-loop μ-loop
-record-at-requires c κs = search needs
+record-at-requires c κs = held-at _ _ _ (c .before .before .before .before .pre .1) 0 (c .before .before .before .before .pre .0)
 
 loop-holds : tie.Need-loop-holds Inv-loop μ-loop
 loop-holds c = search (needs, passed-begin)
 
 record-at-requires-2 : tie.Need-record-at-requires-2 Inv-loop μ-loop
-record-at-requires-2 c κs = search needs
+record-at-requires-2 c κs = search (needs, held-at)
 
 record-number-requires : tie.Need-record-number-requires Inv-loop μ-loop
 record-number-requires c κs = search needs
@@ -30,8 +31,7 @@ returns : tie.Need-returns Inv-loop μ-loop
 returns c = search (needs, passed-refused)
 
 rows-of-requires : tie.Need-rows-of-requires Inv-loop μ-loop
-unfolding asEntry
-rows-of-requires c κs = strides-fit _ _ _ _ (c .before .record-number .ensures) (c .if1 .left)
+rows-of-requires c κs = left-sound _ _ _ _ (c .before .record-number .ensures) (c .if1 .left)
 
 add-rows : tie.Need-add-rows Inv-loop μ-loop
 add-rows c = omega (arith, c .before .before .before .before .before .loop .inv .few, c .before .before .before .before .before .loop .inv .inside, c .rows-of .ensures .1)
@@ -52,8 +52,7 @@ returns-2 : tie.Need-returns-2 Inv-loop μ-loop
 returns-2 c = search (needs, last-refused)
 
 rows-of-requires-2 : tie.Need-rows-of-requires-2 Inv-loop μ-loop
-unfolding asEntry
-rows-of-requires-2 c κs = strides-fit _ _ _ _ (c .before .own-number .ensures) (c .if2 .left)
+rows-of-requires-2 c κs = left-sound _ _ _ _ (c .before .own-number .ensures) (c .if2 .left)
 
 add-rows-2 : tie.Need-add-rows-2 Inv-loop μ-loop
 add-rows-2 c = omega (arith, c .before .before .before .before .loop .inv .few, c .before .before .before .before .loop .inv .inside, c .rows-of2 .ensures .1)

@@ -4,7 +4,7 @@ use denote.Ref.{now}
 use mathlib.Core.Path.{refl}
 use native.Mathlib.Omega.{arith}
 use Rattle.loc_calls.specs.Table.{batch}
-use Rattle.loc_batch.proofs.PlanLaws.{plan-empty, plan-refused, plan-reached, plan-uneven, ends-inside}
+use Rattle.loc_batch.proofs.PlanLaws.{plan-empty, plan-refused, plan-reached, plan-uneven, ends-inside, all-held}
 use Rattle.loc_calls.specs.Areas.{areas, count}
 use Rattle.loc_batch.proofs.plan.plan_append.Statement.{statement}
 use Rattle.loc_batch.proofs.plan.plan_append.Tie as tie
@@ -23,7 +23,7 @@ unfolding count
 returns c = plan-empty (c .before .before .before .before .before .before .before .before .before .before .before .before .args .kind) (areas (now (c .before .before .before .before .before .before .before .before .before .before .before .before .args .slots)) (now (c .before .before .before .before .before .before .before .before .before .before .before .before .args .rows)) (now (c .before .before .before .before .before .before .before .before .before .before .before .before .args .checkpoints))) (batch (now (c .before .before .before .before .before .before .before .before .before .before .before .before .args .starts)) (now (c .before .before .before .before .before .before .before .before .before .before .before .before .args .lens)) (now (c .before .before .before .before .before .before .before .before .before .before .before .before .args .span-starts)) (now (c .before .before .before .before .before .before .before .before .before .before .before .before .args .span-counts))) _ (c .before .before .lists-agree .ensures) (c .before .if1 .taken) _ (c .before .before .before .before .ends .ensures) _ (c .before .before .before .piece-count .ensures .0) _ refl (c .if2 .taken) (omega arith)
 
 check-batch-requires : tie.Need-check-batch-requires
-check-batch-requires c κs = search needs
+check-batch-requires c κs = (search needs, all-held _ _ _ (c .before .before .lists-agree .ensures) (c .before .if1 .taken))
 
 returns-2 : tie.Need-returns-2
 unfolding count

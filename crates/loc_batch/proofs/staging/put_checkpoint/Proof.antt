@@ -1,6 +1,9 @@
 -- `staging::put_checkpoint` meets its contract.
 use borrow.Author.Needs.{needs}
-use Rattle.loc_batch.proofs.StageLaws.{checkpoint-paired, checkpoint-single}
+use mathlib.Core.Path.{ap}
+use native.Mathlib.Omega.{arith}
+use Rattle.loc_leaf.specs.Kind.{checkpointWidth}
+use Rattle.loc_batch.proofs.StageLaws.{checkpoint-wide, checkpoint-paired, checkpoint-single}
 use Rattle.loc_batch.proofs.staging.put_checkpoint.Statement.{statement}
 use Rattle.loc_batch.proofs.staging.put_checkpoint.Tie as tie
 
@@ -10,17 +13,17 @@ body-after-requires c κs = search needs
 span-after-requires : tie.Need-span-after-requires
 span-after-requires c κs = search needs
 
-put-le-requires : tie.Need-put-le-requires
-put-le-requires c κs = search needs
+put-part-requires : tie.Need-put-part-requires
+put-part-requires c κs = omega (arith, checkpoint-wide (c .before .before .before .before .args .kind))
 
 enum-told : tie.Need-enum-told
 enum-told c = search needs
 
-add-put-le : tie.Need-add-put-le
-add-put-le c = search needs
+add-put-part : tie.Need-add-put-part
+add-put-part c = search needs
 
-put-le-requires-2 : tie.Need-put-le-requires-2
-put-le-requires-2 c κs = search needs
+put-part-requires-2 : tie.Need-put-part-requires-2
+put-part-requires-2 c κs = omega (arith, ap checkpointWidth (c .before .enum-told .given .1))
 
 enum-told-2 : tie.Need-enum-told-2
 enum-told-2 c = search needs
@@ -43,10 +46,10 @@ put-checkpoint-spec =
     (tie.spec
     body-after-requires
     span-after-requires
-    put-le-requires
+    put-part-requires
     enum-told
-    add-put-le
-    put-le-requires-2
+    add-put-part
+    put-part-requires-2
     enum-told-2
     same-length
     returns

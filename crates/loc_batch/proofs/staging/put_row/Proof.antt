@@ -1,6 +1,9 @@
 -- `staging::put_row` meets its contract.
 use borrow.Author.Needs.{needs}
-use Rattle.loc_batch.proofs.StageLaws.{row-paired, row-single}
+use mathlib.Core.Path.{ap}
+use native.Mathlib.Omega.{arith}
+use Rattle.loc_leaf.specs.Kind.{rowWidth}
+use Rattle.loc_batch.proofs.StageLaws.{row-wide, row-paired, row-single}
 use Rattle.loc_batch.proofs.staging.put_row.Statement.{statement}
 use Rattle.loc_batch.proofs.staging.put_row.Tie as tie
 
@@ -10,23 +13,23 @@ cast-strides c = search needs
 cast-spans : tie.Need-cast-spans
 cast-spans c = search needs
 
-put-le-requires : tie.Need-put-le-requires
-put-le-requires c κs = search needs
+put-part-requires : tie.Need-put-part-requires
+put-part-requires c κs = omega (arith, row-wide (c .before .before .before .before .args .kind))
 
-add-put-le : tie.Need-add-put-le
-add-put-le c = search needs
+add-put-part : tie.Need-add-put-part
+add-put-part c = search needs
 
-put-le-requires-2 : tie.Need-put-le-requires-2
-put-le-requires-2 c κs = search needs
+put-part-requires-2 : tie.Need-put-part-requires-2
+put-part-requires-2 c κs = omega (arith, row-wide (c .before .before .before .before .before .before .before .before .args .kind))
 
 enum-told : tie.Need-enum-told
 enum-told c = search needs
 
-add-put-le-2 : tie.Need-add-put-le-2
-add-put-le-2 c = search needs
+add-put-part-2 : tie.Need-add-put-part-2
+add-put-part-2 c = search needs
 
-put-le-requires-3 : tie.Need-put-le-requires-3
-put-le-requires-3 c κs = search needs
+put-part-requires-3 : tie.Need-put-part-requires-3
+put-part-requires-3 c κs = omega (arith, ap rowWidth (c .before .enum-told .given .1))
 
 enum-told-2 : tie.Need-enum-told-2
 enum-told-2 c = search needs
@@ -49,12 +52,12 @@ put-row-spec =
     (tie.spec
     cast-strides
     cast-spans
-    put-le-requires
-    add-put-le
-    put-le-requires-2
+    put-part-requires
+    add-put-part
+    put-part-requires-2
     enum-told
-    add-put-le-2
-    put-le-requires-3
+    add-put-part-2
+    put-part-requires-3
     enum-told-2
     same-length
     returns

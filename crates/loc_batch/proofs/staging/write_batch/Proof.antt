@@ -2,8 +2,10 @@
 use Prim.Native.Nat.{_-_}
 use borrow.Author.Needs.{needs}
 use mathlib.Core.Path.{refl}
+use native.Mathlib.Omega.{arith}
 use Rattle.loc_calls.specs.Table.{batch}
-use Rattle.loc_batch.proofs.StageLaws.{Writing, writing-begin, writing-end, writing-fits, writing-slot, writing-row, writing-checkpoint, writing-turn}
+use Rattle.loc_batch.proofs.StageLaws.{Writing, writing-begin, writing-end, writing-sound, writing-slot, writing-row, writing-checkpoint, writing-turn}
+use Rattle.loc_batch.proofs.EntryLaws.{held-at}
 use Rattle.loc_batch.specs.Lists.{entryAt, asEntry}
 use Rattle.loc_batch.proofs.staging.write_batch.Statement.{statement}
 use Rattle.loc_batch.proofs.staging.write_batch.Tie as tie
@@ -19,7 +21,7 @@ loop-holds : tie.Need-loop-holds Inv-loop μ-loop
 loop-holds c = search (needs, writing-begin)
 
 record-at-requires : tie.Need-record-at-requires Inv-loop μ-loop
-record-at-requires c κs = search needs
+record-at-requires c κs = search (needs, held-at)
 
 add-id : tie.Need-add-id Inv-loop μ-loop
 add-id c = search needs
@@ -29,17 +31,16 @@ add-id-2 c = search needs
 
 write-slot-requires : tie.Need-write-slot-requires Inv-loop μ-loop
 unfolding asEntry
-write-slot-requires c κs = (writing-slot _ _ _ _ _ _ _ _ _ _ _ _ _ _ (c .before .before .before .loop .inv) (c .before .before .loop-test .taken) _ (c .before .record-at .ensures) _ refl, writing-fits _ _ _ _ _ _ _ _ _ _ _ _ _ _ (c .before .before .before .loop .inv) (c .before .before .loop-test .taken) _ (c .before .record-at .ensures) _ refl)
+write-slot-requires c κs = (writing-slot _ _ _ _ _ _ _ _ _ _ _ _ _ _ (c .before .before .before .loop .inv) (c .before .before .loop-test .taken) _ (c .before .record-at .ensures) _ refl, writing-sound _ _ _ _ _ _ _ _ _ _ _ _ _ _ (c .before .before .before .loop .inv) (c .before .before .loop-test .taken) _ (c .before .record-at .ensures) _ refl .fits)
 
 write-row-requires : tie.Need-write-row-requires Inv-loop μ-loop
-unfolding asEntry
-write-row-requires c κs = (search (needs, writing-row), writing-fits _ _ _ _ _ _ _ _ _ _ _ _ _ _ (c .before .before .before .before .before .before .before .loop .inv) (c .before .before .before .before .before .before .loop-test .taken) _ (c .before .before .before .before .before .record-at .ensures) _ refl)
+write-row-requires c κs = (search (needs, writing-row), writing-sound _ _ _ _ _ _ _ _ _ _ _ _ _ _ (c .before .before .before .before .before .before .before .loop .inv) (c .before .before .before .before .before .before .loop-test .taken) _ (c .before .before .before .before .before .record-at .ensures) _ refl)
 
 write-checkpoint-requires : tie.Need-write-checkpoint-requires Inv-loop μ-loop
 write-checkpoint-requires c κs = search (needs, writing-checkpoint)
 
 add-i : tie.Need-add-i Inv-loop μ-loop
-add-i c = search needs
+add-i c = omega (arith, c .before .before .before .before .before .before .before .before .before .before .before .before .before .loop-test .taken, c .before .before .before .before .before .before .before .before .before .before .before .before .before .before .before .before .before .before .before .before .before .before .pre .0 .inNumbers)
 
 loop-less : tie.Need-loop-less Inv-loop μ-loop
 loop-less c = search needs

@@ -1,26 +1,21 @@
 -- `staging::write_row` meets its contract.
 use borrow.Author.Needs.{needs}
+use native.Mathlib.Omega.{arith}
+use Rattle.loc_batch.specs.Lists.{asEntry}
 use Rattle.loc_batch.proofs.StageLaws.{row-room, row-written, row-passed}
 use Rattle.loc_batch.proofs.staging.write_row.Statement.{statement}
 use Rattle.loc_batch.proofs.staging.write_row.Tie as tie
 
 value-of-requires : tie.Need-value-of-requires
-value-of-requires c κs = search needs
+unfolding asEntry
+value-of-requires c κs = c .before .pre .1 .fits
 
-pack-requires : tie.Need-pack-requires
-pack-requires c κs = search needs
-
-array-read-needs-row : tie.Need-array-read-needs-row
-array-read-needs-row c = search needs
-
-array-read-needs-row-2 : tie.Need-array-read-needs-row-2
-array-read-needs-row-2 c = search needs
-
-needs-row-requires : tie.Need-needs-row-requires
-needs-row-requires c κs = search needs
+is-stored-as-zero-requires : tie.Need-is-stored-as-zero-requires
+is-stored-as-zero-requires c κs = search needs
 
 put-row-requires : tie.Need-put-row-requires
-put-row-requires c κs = search (needs, row-room)
+unfolding asEntry
+put-row-requires c κs = row-room _ _ _ (c .before .before .before .before .before .pre .1) (omega arith) _ (c .before .before .before .value-of .ensures) _ (c .before .before .is-stored-as-zero .ensures) _ (c .before .if1 .taken) _ (c .before .before .before .before .before .pre .0)
 
 row-width-requires : tie.Need-row-width-requires
 row-width-requires c κs = search needs
@@ -32,20 +27,19 @@ same-length : tie.Need-same-length
 same-length c = search needs
 
 returns : tie.Need-returns
-returns c = search (needs, row-written)
+unfolding asEntry
+returns c = row-written _ _ _ (c .before .before .before .before .before .before .before .before .before .pre .1) (omega arith) _ (c .before .before .before .before .before .before .before .value-of .ensures) _ (c .before .before .before .before .before .before .is-stored-as-zero .ensures) _ (c .before .before .before .before .before .if1 .taken) _ _ _ (c .before .before .before .put-row .ensures) (c .row-width .ensures .0)
 
 returns-2 : tie.Need-returns-2
-returns-2 c = search (needs, row-passed)
+unfolding asEntry
+returns-2 c = row-passed _ _ _ (c .before .before .before .before .pre .1) (omega arith) _ (c .before .before .value-of .ensures) _ (c .before .is-stored-as-zero .ensures) _ (c .if1 .left) _
 
 pub write-row-spec : {M : Type 1} → statement M
 write-row-spec =
     tie.close
     (tie.spec
     value-of-requires
-    pack-requires
-    array-read-needs-row
-    array-read-needs-row-2
-    needs-row-requires
+    is-stored-as-zero-requires
     put-row-requires
     row-width-requires
     add-result

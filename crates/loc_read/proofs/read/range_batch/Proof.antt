@@ -27,23 +27,14 @@ mul-if3 c = omega (arith, width-low (c .word-width .result) (length (now (c .bef
 returns-3 : tie.Need-returns-3
 returns-3 c = read-16 (c .before .before .before .before .before .before .before .before .before .before .args .kind) (areas (now (c .before .before .before .before .before .before .before .before .before .before .args .slots)) (now (c .before .before .before .before .before .before .before .before .before .before .args .rows)) (now (c .before .before .before .before .before .before .before .before .before .before .args .checkpoints))) (now (c .before .before .before .before .before .before .before .before .before .before .args .wanted)) (now (c .before .before .before .before .before .before .before .before .before .before .args .answers)) _ (c .before .before .before .before .call-refusal .ensures) (search needs) _ (c .before .word-width .ensures .0) (omega arith) (c .if3 .taken)
 
-read-few-requires : tie.Need-read-few-requires
-read-few-requires c κs = (read-tested (c .before .before .before .before .before .before .before .before .before .before .before .before .args .kind) (areas (now (c .before .before .before .before .before .before .before .before .before .before .before .before .args .slots)) (now (c .before .before .before .before .before .before .before .before .before .before .before .before .args .rows)) (now (c .before .before .before .before .before .before .before .before .before .before .before .before .args .checkpoints))) (now (c .before .before .before .before .before .before .before .before .before .before .before .before .args .wanted)) (now (c .before .before .before .before .before .before .before .before .before .before .before .before .args .answers)) _ (c .before .before .before .before .before .before .call-refusal .ensures) (search needs) _ (c .before .before .before .word-width .ensures .0) (omega arith) (omega arith), omega arith)
+read-tested-requires : tie.Need-read-tested-requires
+read-tested-requires c κs = read-tested (c .before .before .before .before .before .before .before .before .before .before .before .args .kind) (areas (now (c .before .before .before .before .before .before .before .before .before .before .before .args .slots)) (now (c .before .before .before .before .before .before .before .before .before .before .before .args .rows)) (now (c .before .before .before .before .before .before .before .before .before .before .before .args .checkpoints))) (now (c .before .before .before .before .before .before .before .before .before .before .before .args .wanted)) (now (c .before .before .before .before .before .before .before .before .before .before .before .args .answers)) _ (c .before .before .before .before .before .call-refusal .ensures) (search needs) _ (c .before .before .word-width .ensures .0) (omega arith) (omega arith)
 
 same-length : tie.Need-same-length
 same-length c = search needs
 
 returns-4 : tie.Need-returns-4
 returns-4 c = search needs
-
-read-many-requires : tie.Need-read-many-requires
-read-many-requires c κs = read-tested (c .before .before .before .before .before .before .before .before .before .before .before .before .args .kind) (areas (now (c .before .before .before .before .before .before .before .before .before .before .before .before .args .slots)) (now (c .before .before .before .before .before .before .before .before .before .before .before .before .args .rows)) (now (c .before .before .before .before .before .before .before .before .before .before .before .before .args .checkpoints))) (now (c .before .before .before .before .before .before .before .before .before .before .before .before .args .wanted)) (now (c .before .before .before .before .before .before .before .before .before .before .before .before .args .answers)) _ (c .before .before .before .before .before .before .call-refusal .ensures) (search needs) _ (c .before .before .before .word-width .ensures .0) (omega arith) (omega arith)
-
-same-length-2 : tie.Need-same-length-2
-same-length-2 c = search needs
-
-returns-5 : tie.Need-returns-5
-returns-5 c = search needs
 
 pub range-batch-spec : {M : Type 1} → statement M
 range-batch-spec =
@@ -55,9 +46,6 @@ range-batch-spec =
     word-width-requires
     mul-if3
     returns-3
-    read-few-requires
+    read-tested-requires
     same-length
-    returns-4
-    read-many-requires
-    same-length-2
-    returns-5)
+    returns-4)

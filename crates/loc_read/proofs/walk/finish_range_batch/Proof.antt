@@ -4,22 +4,23 @@ use mathlib.Core.Path.{_≡_, refl, ap, _∙_}
 use native.Mathlib.Omega.{arith}
 use lib.ListN.{length-replicate, length}
 use borrow.Author.Needs.{needs}
+use Rattle.loc_window.specs.Window.{sumsOf}
 use Rattle.loc_window.proofs.StepLaws.{slot-lack}
-use Rattle.loc_read.proofs.WindowLaws.{end-of-bodies, end-of-spans, summing-none, summing-asks, summing-next}
-use Rattle.loc_read.proofs.WalkLaws.{run-published, ordered-keys, passing-none, run-few, run-room, run-low, run-lacks, run-safe, passing-next, finished-17, finished-0}
 use Rattle.loc_window.proofs.PassedLaws.{few-rows}
-use Rattle.loc_read.proofs.RunLaws.{key-there}
 use Rattle.loc_leaf.specs.Kind.{windowOf}
-use Rattle.loc_read.specs.Walk.{Summing, Passing}
 use Rattle.loc_calls.specs.Areas.{areas}
+use Rattle.loc_read.proofs.WindowLaws.{end-of-bodies, end-of-spans, summing-none, summing-asks, summing-more, summing-next}
+use Rattle.loc_read.proofs.WalkLaws.{run-published, ordered-keys, passing-none, run-few, run-room, run-low, run-lacks, run-safe, passing-next, finished-17, finished-0}
+use Rattle.loc_read.proofs.RunLaws.{key-there}
+use Rattle.loc_read.specs.Walk.{Summing, Passing}
 use Rattle.loc_read.proofs.walk.finish_range_batch.Statement.{statement}
 use Rattle.loc_read.proofs.walk.finish_range_batch.Tie as tie
 
 abbrev Inv-loop : tie.InvT-loop
-Inv-loop kind slots rows checkpoints count row-count wanted keys out bytes body₀ span₀ mark number₀ i stamp run m w first s₀ block₀ body span number s block = (number ≡ 0) × Summing kind first m bytes rows row-count mark stamp block s body span
+Inv-loop kind slots rows checkpoints count row-count wanted keys out bytes body₀ span₀ mark number₀ i stamp run m w first strides₀ spans₀ row₀ block₀ body span number strides spans row block = (number ≡ 0) × Summing kind first m bytes rows row-count mark stamp block (sumsOf strides spans row block) body span
 
 abbrev μ-loop : tie.MeasureT-loop
-μ-loop kind slots rows checkpoints count row-count wanted keys out bytes body₀ span₀ mark number₀ i stamp run m w first s₀ block₀ body span number s block = m + 8 - 8 * block
+μ-loop kind slots rows checkpoints count row-count wanted keys out bytes body₀ span₀ mark number₀ i stamp run m w first strides₀ spans₀ row₀ block₀ body span number strides spans row block = m + 8 - 8 * block
 
 abbrev Inv-windows : tie.InvT-windows
 Inv-windows kind slots rows checkpoints count row-count wanted keys out₀ bytes₀ body₀ span₀ mark₀ number₀ i₀ out bytes body span mark number i = (number ≡ 0) × (length bytes ≡ 2048) × (length body ≡ 1025) × (length span ≡ 1025) × (length mark ≡ 128) × Passing kind (areas slots rows checkpoints) wanted keys i out₀ out
@@ -57,14 +58,15 @@ add-copy-slots c = omega (arith, run-published _ _ _ _ _ _ (c .before .before .b
 mul-copy-slots-2 : tie.Need-mul-copy-slots-2 Inv-loop μ-loop Inv-windows μ-windows
 mul-copy-slots-2 c = omega (arith, run-few _ _ _ _ _ _ (c .before .before .before .before .before .before .before .before .before .before .before .before .before .pre .0) (ordered-keys _ _ _ (c .before .before .before .before .before .before .before .before .before .before .before .before .before .pre .1 .0) (c .before .before .before .before .before .before .before .before .before .before .before .before .before .pre .1 .1)) _ _ _ _ _ (c .before .before .before .run-at .ensures))
 
-slice-aggregate-copy-slots : tie.Need-slice-aggregate-copy-slots Inv-loop μ-loop Inv-windows μ-windows
+slice-aggregate-copy-slots :
+    tie.Need-slice-aggregate-copy-slots Inv-loop μ-loop Inv-windows μ-windows
 slice-aggregate-copy-slots c = search needs
 
 copy-slots-requires : tie.Need-copy-slots-requires Inv-loop μ-loop Inv-windows μ-windows
 copy-slots-requires c κs = (run-room _ _ _ _ _ _ (c .before .before .before .before .before .before .before .before .before .before .before .before .before .before .pre .0) (ordered-keys _ _ _ (c .before .before .before .before .before .before .before .before .before .before .before .before .before .before .pre .1 .0) (c .before .before .before .before .before .before .before .before .before .before .before .before .before .before .pre .1 .1)) _ _ _ _ _ (c .before .before .before .before .run-at .ensures) _ (ap (λ (x : ℕ). 1024 * x) (c .before .loc-window .ensures ∙ ap windowOf (c .before .before .wanted-by .ensures))), omega (arith, run-few _ _ _ _ _ _ (c .before .before .before .before .before .before .before .before .before .before .before .before .before .before .pre .0) (ordered-keys _ _ _ (c .before .before .before .before .before .before .before .before .before .before .before .before .before .before .pre .1 .0) (c .before .before .before .before .before .before .before .before .before .before .before .before .before .before .pre .1 .1)) _ _ _ _ _ (c .before .before .before .before .run-at .ensures), c .before .before .before .before .before .before .before .windows .inv .1))
 
-add-t27 : tie.Need-add-t27 Inv-loop μ-loop Inv-windows μ-windows
-add-t27 c = omega (arith, few-rows _ _ _ (c .before .before .before .before .before .before .before .before .before .before .before .before .before .before .before .before .pre .0 .rise))
+add-row : tie.Need-add-row Inv-loop μ-loop Inv-windows μ-windows
+add-row c = omega (arith, few-rows _ _ _ (c .before .before .before .before .before .before .before .before .before .before .before .before .before .before .before .before .pre .0 .rise))
 
 loop-holds : tie.Need-loop-holds Inv-loop μ-loop Inv-windows μ-windows
 loop-holds c = (c .before .before .before .before .before .before .before .before .before .windows .inv .0, summing-none _ _ _ _ _ _ _ _ _ _ (run-few _ _ _ _ _ _ (c .before .before .before .before .before .before .before .before .before .before .before .before .before .before .before .before .pre .0) (ordered-keys _ _ _ (c .before .before .before .before .before .before .before .before .before .before .before .before .before .before .before .before .pre .1 .0) (c .before .before .before .before .before .before .before .before .before .before .before .before .before .before .before .before .pre .1 .1)) _ _ _ _ _ (c .before .before .before .before .before .before .run-at .ensures)) (run-low _ _ _ _ _ _ (c .before .before .before .before .before .before .before .before .before .before .before .before .before .before .before .before .pre .0) (ordered-keys _ _ _ (c .before .before .before .before .before .before .before .before .before .before .before .before .before .before .before .before .pre .1 .0) (c .before .before .before .before .before .before .before .before .before .before .before .before .before .before .before .before .pre .1 .1)) _ _ _ _ _ (c .before .before .before .before .before .before .run-at .ensures) _ (ap (λ (x : ℕ). 1024 * x) (c .before .before .before .loc-window .ensures ∙ ap windowOf (c .before .before .before .before .wanted-by .ensures)))) (c .before .before .before .before .before .before .before .before .before .before .before .before .before .before .before .before .pre .0 .rise) (c .before .copy-slots .kept .1 .1 .1 .0 ∙ c .before .before .before .before .before .before .before .before .before .windows .inv .1) (c .before .before .before .before .before .before .before .before .before .windows .inv .2) (c .before .before .before .before .before .before .before .before .before .windows .inv .3))
@@ -72,16 +74,20 @@ loop-holds c = (c .before .before .before .before .before .before .before .befor
 mul-loop : tie.Need-mul-loop Inv-loop μ-loop Inv-windows μ-windows
 mul-loop c = omega (arith, c .loop .inv .1 .bound, run-few _ _ _ _ _ _ (c .before .before .before .before .before .before .before .before .before .before .before .before .before .before .before .before .before .pre .0) (ordered-keys _ _ _ (c .before .before .before .before .before .before .before .before .before .before .before .before .before .before .before .before .before .pre .1 .0) (c .before .before .before .before .before .before .before .before .before .before .before .before .before .before .before .before .before .pre .1 .1)) _ _ _ _ _ (c .before .before .before .before .before .before .before .run-at .ensures))
 
-slice-aggregate-slot-step : tie.Need-slice-aggregate-slot-step Inv-loop μ-loop Inv-windows μ-windows
+slice-aggregate-slot-step :
+    tie.Need-slice-aggregate-slot-step Inv-loop μ-loop Inv-windows μ-windows
 slice-aggregate-slot-step c = search needs
 
-slice-aggregate-slot-step-2 : tie.Need-slice-aggregate-slot-step-2 Inv-loop μ-loop Inv-windows μ-windows
+slice-aggregate-slot-step-2 :
+    tie.Need-slice-aggregate-slot-step-2 Inv-loop μ-loop Inv-windows μ-windows
 slice-aggregate-slot-step-2 c = search needs
 
-slice-aggregate-slot-step-3 : tie.Need-slice-aggregate-slot-step-3 Inv-loop μ-loop Inv-windows μ-windows
+slice-aggregate-slot-step-3 :
+    tie.Need-slice-aggregate-slot-step-3 Inv-loop μ-loop Inv-windows μ-windows
 slice-aggregate-slot-step-3 c = search needs
 
-slice-aggregate-slot-step-4 : tie.Need-slice-aggregate-slot-step-4 Inv-loop μ-loop Inv-windows μ-windows
+slice-aggregate-slot-step-4 :
+    tie.Need-slice-aggregate-slot-step-4 Inv-loop μ-loop Inv-windows μ-windows
 slice-aggregate-slot-step-4 c = search needs
 
 slot-step-requires : tie.Need-slot-step-requires Inv-loop μ-loop Inv-windows μ-windows
@@ -90,14 +96,11 @@ slot-step-requires c κs = summing-asks _ _ _ _ _ _ _ _ _ _ _ _ (c .before .befo
 enum-known-step : tie.Need-enum-known-step Inv-loop μ-loop Inv-windows μ-windows
 enum-known-step c = search needs
 
-add-block : tie.Need-add-block Inv-loop μ-loop Inv-windows μ-windows
-add-block c = omega (arith, c .before .before .before .before .before .before .before .before .before .before .before .loop .inv .1 .bound, run-few _ _ _ _ _ _ (c .before .before .before .before .before .before .before .before .before .before .before .before .before .before .before .before .before .before .before .before .before .before .before .before .before .before .before .before .pre .0) (ordered-keys _ _ _ (c .before .before .before .before .before .before .before .before .before .before .before .before .before .before .before .before .before .before .before .before .before .before .before .before .before .before .before .before .pre .1 .0) (c .before .before .before .before .before .before .before .before .before .before .before .before .before .before .before .before .before .before .before .before .before .before .before .before .before .before .before .before .pre .1 .1)) _ _ _ _ _ (c .before .before .before .before .before .before .before .before .before .before .before .before .before .before .before .before .before .before .run-at .ensures))
-
 loop-less : tie.Need-loop-less Inv-loop μ-loop Inv-windows μ-windows
-loop-less c = omega (arith, c .before .before .before .before .before .before .before .before .before .before .loop-test .taken)
+loop-less c = omega (arith, summing-more _ _ _ _ _ _ _ _ _ _ _ _ (c .before .before .before .before .before .before .before .before .before .before .before .loop .inv .1) _ _ _ _ (c .before .before .before .before .before .slot-step .ensures) (c .before .step .given .1))
 
 loop-again : tie.Need-loop-again Inv-loop μ-loop Inv-windows μ-windows
-loop-again c = (c .before .before .before .before .before .before .before .before .before .before .before .loop .inv .0, summing-next _ _ _ _ _ _ _ _ _ _ _ _ (c .before .before .before .before .before .before .before .before .before .before .before .loop .inv .1) _ _ _ _ (c .before .before .before .before .before .before .before .before .before .before .loop-test .taken) (c .before .before .before .before .before .slot-step .ensures) (c .before .step .given .1) (c .before .before .before .before .before .slot-step .kept .1 .1 .1 .1 .1 .1 .1 .1 .1 .1 .0) (c .before .before .before .before .before .slot-step .kept .1 .1 .1 .1 .1 .1 .1 .1 .1 .1 .1 .0))
+loop-again c = (c .before .before .before .before .before .before .before .before .before .before .before .loop .inv .0, summing-next _ _ _ _ _ _ _ _ _ _ _ _ (c .before .before .before .before .before .before .before .before .before .before .before .loop .inv .1) _ _ _ _ (c .before .before .before .before .before .slot-step .ensures) (c .before .step .given .1) (c .before .before .before .before .before .slot-step .kept .1 .1 .1 .1 .1 .1 .1 .1 .1 .1 .1 .1 .0) (c .before .before .before .before .before .slot-step .kept .1 .1 .1 .1 .1 .1 .1 .1 .1 .1 .1 .1 .1 .0))
 
 enum-told : tie.Need-enum-told Inv-loop μ-loop Inv-windows μ-windows
 enum-told c = search needs
@@ -111,7 +114,8 @@ window-end-requires-2 c κs = (omega arith, omega (arith, run-low _ _ _ _ _ _ (c
 slice-aggregate-put-run : tie.Need-slice-aggregate-put-run Inv-loop μ-loop Inv-windows μ-windows
 slice-aggregate-put-run c = search needs
 
-slice-aggregate-put-run-2 : tie.Need-slice-aggregate-put-run-2 Inv-loop μ-loop Inv-windows μ-windows
+slice-aggregate-put-run-2 :
+    tie.Need-slice-aggregate-put-run-2 Inv-loop μ-loop Inv-windows μ-windows
 slice-aggregate-put-run-2 c = search needs
 
 put-run-requires : tie.Need-put-run-requires Inv-loop μ-loop Inv-windows μ-windows
@@ -155,7 +159,7 @@ finish-range-batch-spec =
     mul-copy-slots-2
     slice-aggregate-copy-slots
     copy-slots-requires
-    add-t27
+    add-row
     loop-holds
     mul-loop
     slice-aggregate-slot-step
@@ -164,7 +168,6 @@ finish-range-batch-spec =
     slice-aggregate-slot-step-4
     slot-step-requires
     enum-known-step
-    add-block
     loop-less
     loop-again
     enum-told

@@ -1,23 +1,25 @@
 -- `loc_window::block::first_total` meets its contract.
--- A block's total is that of its two words.
+-- No lane of a sum of bytes reaches 2^16.
 use native.Mathlib.Omega.{arith}
-use borrow.Author.Needs.{needs}
-use Rattle.loc_window.proofs.BlockLaws.{total-of}
+use lib.Bits.{and-le-r}
+use Rattle.loc_leaf.proofs.Lanes.{byte-mask}
+use Rattle.loc_window.proofs.BlockLaws.{total-firsts, firsts-small}
 use Rattle.loc_window.proofs.block.first_total.Statement.{statement}
 use Rattle.loc_window.proofs.block.first_total.Tie as tie
 
-word-total-requires : tie.Need-word-total-requires
-word-total-requires c κs = search needs
+add-e : tie.Need-add-e
+add-e c = omega (arith, and-le-r (c .args .lo) byte-mask, and-le-r (c .args .hi) byte-mask)
 
-word-total-requires-2 : tie.Need-word-total-requires-2
-word-total-requires-2 c κs = search needs
+add-s : tie.Need-add-s
+add-s c = record { fits = total-firsts (c .args .lo) (c .args .hi) .0 }
 
 add-result : tie.Need-add-result
-add-result c = search needs
+add-result c = record { fits = total-firsts (c .args .lo) (c .args .hi) .1 }
 
 returns : tie.Need-returns
-returns c = (total-of _ _ _ _ (c .before .word-total .ensures .0) (c .word-total2 .ensures .0), omega arith)
+returns c =
+    let e = total-firsts (c .args .lo) (c .args .hi) .2 in
+    (e, rw e (firsts-small (c .args .lo) (c .args .hi)))
 
 pub first-total-spec : {M : Type 1} → statement M
-first-total-spec =
-    tie.close (tie.spec word-total-requires word-total-requires-2 add-result returns)
+first-total-spec = tie.close (tie.spec add-e add-s add-result returns)

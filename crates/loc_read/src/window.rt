@@ -1,0 +1,133 @@
+// The reading of numbers that all lie in one window: no order is needed, and no stage.
+// The window's sums rule out 17 before the first answer is stored.
+ghost use mathlib.Core.Path.{_≡_};
+ghost use mathlib.Core.Bool.{true, false};
+ghost use Prim.Native.Nat.{_+_};
+ghost use lib.ListN.{length};
+ghost use Rattle.loc_leaf.specs.Area.{fill};
+ghost use Rattle.loc_calls.specs.Areas.{areas};
+ghost use Rattle.loc_calls.specs.Table.{read};
+ghost use Rattle.loc_calls.specs.Calls.{call};
+ghost use Rattle.loc_calls.specs.Promises.{Read};
+ghost use Rattle.loc_window.specs.Window.{placed, complete, sumsOf};
+ghost use Rattle.loc_read.specs.Runs.{OneRun};
+ghost use Rattle.loc_read.specs.Walk.{Summing, WindowSummed};
+ghost use Rattle.loc_read.specs.Read.{Tested};
+use crate::walk::window_end;
+use loc_answer::put::put_window;
+use loc_leaf::Answer;
+use loc_leaf::Kind;
+use loc_leaf::delta_loc::LOC_WINDOW;
+use loc_leaf::delta_loc::loc_window;
+use loc_leaf::delta_loc::row_width;
+use loc_leaf::file::FILE_HEADER_LEN;
+use loc_store::plan::piece_count;
+use loc_window::Step;
+use loc_window::window::copy_slots;
+use loc_window::window::slot_step;
+
+// The sums of a window's first m records, of whose blocks those with 1 are marked; false where one of them lacks its row.
+fn window_sums(
+    kind: Kind,
+    bytes: &[u8],
+    m: usize,
+    mark: &[u64],
+    rows: &[u8],
+    row_count: usize,
+    first: u64,
+    body: &mut [u64],
+    span: &mut [u64],
+) -> bool
+    requires { ⌜ (length (now mark) ≡ 128) × Summing kind first m (now bytes) (now rows) «row_count» (now mark) 1 0 (sumsOf 0 0 («row_count» + 1) 0) (now body) (now span) ⌝ }
+    ensures { λ r. ⌜ (r ≡ true → WindowSummed kind first m (now (bytes .entry)) (now (rows .entry)) «row_count» (now (mark .entry)) 1 (now (body .exit)) (now (span .exit)))
+        × (r ≡ false → complete kind (placed first (now (bytes .entry)) (now (rows .entry))) first m ≡ false) ⌝ }
+{
+    let mut strides: u64 = 0;
+    let mut spans: u64 = 0;
+    let mut row = row_count + 1;
+    let mut block: usize = 0;
+    while 8 * block < m {
+        let step = slot_step(
+            kind,
+            bytes,
+            block,
+            m,
+            mark,
+            1,
+            rows,
+            row_count,
+            first,
+            strides,
+            spans,
+            row,
+            body,
+            span,
+        );
+        match step {
+            Step::Next(t) => {
+                strides = t.strides;
+                spans = t.spans;
+                row = t.row;
+                block = t.block;
+            }
+            Step::Lack => {
+                return false;
+            }
+        }
+    }
+    true
+}
+
+// The answers of a list that is one run, or 17.
+pub fn read_window(
+    kind: Kind,
+    slots: &[u8],
+    rows: &[u8],
+    checkpoints: &[u8],
+    wanted: &[u64],
+    m: usize,
+    mark: &[u64],
+    answers: &mut [u64],
+) -> Answer
+    requires { ⌜ Tested kind (areas (now slots) (now rows) (now checkpoints)) (now wanted) (now answers) ⌝ }
+    requires { ⌜ (length (now mark) ≡ 128) × OneRun kind (fill 2 (now slots)) (now wanted) m (now mark) ⌝ }
+    ensures { λ r. ⌜ Read (call kind 0 (read (now (wanted .entry)) (now (answers .entry))) (areas (now (slots .entry)) (now (rows .entry)) (now (checkpoints .entry))))
+        r (now (answers .exit)) ⌝ }
+{
+    let mut bytes = [0u8; 2048];
+    let mut body = [0u64; 1025];
+    let mut span = [0u64; 1025];
+    let row_count = piece_count(rows, row_width(kind));
+    let w = loc_window(wanted[0]);
+    let first = LOC_WINDOW * w;
+    copy_slots(
+        slots,
+        FILE_HEADER_LEN + 2 * first as usize,
+        2 * m,
+        &mut bytes,
+    );
+    if window_sums(
+        kind,
+        &bytes,
+        m,
+        mark,
+        rows,
+        row_count,
+        first,
+        &mut body,
+        &mut span,
+    ) {
+        let body_end = window_end(kind, checkpoints, 0, w);
+        let span_end = window_end(kind, checkpoints, 8, w);
+        put_window(kind, wanted, body_end, span_end, &body, &span, answers);
+        let n = wanted.len() as u64;
+        return Answer {
+            number: 0,
+            value: n,
+        };
+    }
+    Answer {
+        number: 17,
+        value: 0,
+    }
+}
