@@ -1,6 +1,6 @@
 //! Port and original on the same data in one process: opening, append, truncation, reading, and cost against index size.
 //! bench [--quick] [reading|storing|size|numbers]...   the tables named, all where none is
-//! Times are the best of the rounds, in microseconds; the sides take turns in every round.
+//! Times are medians over the rounds, in microseconds; the sides take turns in every round.
 use host::areas::{empty, Areas, Kind, ROWS, SLOTS};
 use host::judge::{Batch, Folder, Judge};
 use host::pick::Pick;
@@ -88,9 +88,23 @@ fn timed(span: Duration, f: &mut dyn FnMut()) -> f64 {
     }
 }
 
-/// The round that others disturbed least.
-fn best(list: &[f64]) -> f64 {
-    list.iter().copied().fold(f64::MAX, f64::min)
+/// Seconds that a call of each takes, in short turns of about 100 µs: their difference can be told where it is far smaller than they are.
+fn alternating(span: Duration, f: &mut dyn FnMut(), g: &mut dyn FnMut()) -> (f64, f64) {
+    let turn = |n: u64, h: &mut dyn FnMut()| {
+        let begun = Instant::now();
+        for _ in 0..n {
+            h();
+        }
+        begun.elapsed()
+    };
+    let n = (Duration::from_micros(100).as_nanos() / turn(8, g).as_nanos().max(8) * 8).max(1) as u64;
+    let (mut a, mut b, mut turns) = (Duration::ZERO, Duration::ZERO, 0);
+    while a + b < 2 * span || turns < 2 {
+        a += turn(n, f);
+        b += turn(n, g);
+        turns += n;
+    }
+    (a.as_secs_f64() / turns as f64, b.as_secs_f64() / turns as f64)
 }
 
 fn median(mut list: Vec<f64>) -> f64 {
@@ -195,23 +209,16 @@ fn on_files(judge: &Judge, numbers: &[Fk]) -> usize {
     }
 }
 
-/// One reading: times in seconds, and the median over the rounds of the port's share in the original's.
+/// One reading: times in seconds, and the median over the rounds of the port's share in the original's. `read` is a call without its checks.
 struct Reading {
     checks: f64,
-    call: f64,
+    read: f64,
     memory: f64,
     whole: f64,
     read_to_memory: f64,
     read_to_whole: f64,
     call_to_memory: f64,
     call_to_whole: f64,
-}
-
-impl Reading {
-    /// What a call takes after its checks.
-    fn read(&self) -> f64 {
-        self.call - self.checks
-    }
 }
 
 /// The checks of numbers 1 and 6 alone are a call that is refused with 15 just after them.
@@ -229,37 +236,39 @@ fn reading(index: &Index, n: usize, spread: Spread, setting: &Setting) -> Readin
     let too_many = vec![1; 1025];
     assert_eq!(port::read(index.kind, &index.areas, &too_many, &mut []).0, 15);
     let (mut i, mut j, mut k) = (0, 0, 0);
-    let times = rounds(
-        setting,
-        &mut [
-            &mut || {
-                black_box(port::read(index.kind, &index.areas, black_box(&too_many), &mut []));
-            },
-            &mut || {
-                i = (i + 1) % lists.len();
-                black_box(port::read(index.kind, &index.areas, black_box(&lists[i]), &mut buffer));
-            },
-            &mut || {
-                j = (j + 1) % lists.len();
-                black_box(in_memory(&index.judge, &index.areas[SLOTS], black_box(&numbers[j])));
-            },
-            &mut || {
-                k = (k + 1) % lists.len();
-                black_box(on_files(&index.judge, black_box(&numbers[k])));
-            },
-        ],
-    );
-    let [checks, call, memory, whole] = &times[..] else { unreachable!() };
-    let read: Vec<f64> = call.iter().zip(checks).map(|(a, b)| a - b).collect();
+    let mut check = || {
+        black_box(port::read(index.kind, &index.areas, black_box(&too_many), &mut []));
+    };
+    let mut read = || {
+        i = (i + 1) % lists.len();
+        black_box(port::read(index.kind, &index.areas, black_box(&lists[i]), &mut buffer));
+    };
+    let mut from_memory = || {
+        j = (j + 1) % lists.len();
+        black_box(in_memory(&index.judge, &index.areas[SLOTS], black_box(&numbers[j])));
+    };
+    let mut from_files = || {
+        k = (k + 1) % lists.len();
+        black_box(on_files(&index.judge, black_box(&numbers[k])));
+    };
+    let [mut checks, mut call, mut memory, mut whole] = [const { Vec::new() }; 4];
+    for _ in 0..setting.rounds {
+        let (a, b) = alternating(setting.span, &mut check, &mut read);
+        checks.push(a);
+        call.push(b);
+        memory.push(timed(setting.span, &mut from_memory));
+        whole.push(timed(setting.span, &mut from_files));
+    }
+    let read: Vec<f64> = call.iter().zip(&checks).map(|(a, b)| a - b).collect();
     Reading {
-        checks: best(checks),
-        call: best(call),
-        memory: best(memory),
-        whole: best(whole),
-        read_to_memory: share(&read, memory),
-        read_to_whole: share(&read, whole),
-        call_to_memory: share(call, memory),
-        call_to_whole: share(call, whole),
+        read_to_memory: share(&read, &memory),
+        read_to_whole: share(&read, &whole),
+        call_to_memory: share(&call, &memory),
+        call_to_whole: share(&call, &whole),
+        checks: median(checks),
+        read: median(read),
+        memory: median(memory),
+        whole: median(whole),
     }
 }
 
@@ -303,7 +312,8 @@ fn storing(index: &mut Index, n: usize, rows_one_in: u64, setting: &Setting) -> 
         }
     }
     times.map(|[port, original]| {
-        (best(&port), best(&original), share(&port, &original))
+        let ratio = share(&port, &original);
+        (median(port), median(original), ratio)
     })
 }
 
@@ -321,7 +331,9 @@ fn opening(index: &mut Index, folder: &Folder, setting: &Setting) -> (f64, f64, 
             },
         ],
     );
-    (best(&times[0]), best(&times[1]), share(&times[0], &times[1]))
+    let ratio = share(&times[0], &times[1]);
+    let [port, original] = times.try_into().unwrap();
+    (median(port), median(original), ratio)
 }
 
 fn us(seconds: f64) -> String {
@@ -352,7 +364,7 @@ fn reading_table(folder: &Folder, setting: &Setting) {
                         kind.name(),
                         spread.name(),
                         us(r.checks),
-                        us(r.read()),
+                        us(r.read),
                         us(r.memory),
                         us(r.whole),
                         r.read_to_memory,
@@ -388,7 +400,7 @@ fn storing_table(folder: &Folder, setting: &Setting) {
 /// How cost grows with the index and its rows.
 fn size_table(folder: &Folder, setting: &Setting) {
     println!("\n### Cost against index size\n");
-    println!("| kind | rows | records | published rows | checks | ns a row | open: port, files | append of 100: port, files | truncation by 100: port, files | 32 numbers in 1 window: read, memory |");
+    println!("| kind | rows | records | published rows | checks | ns a row | open: port, files | append of 100: port, files | truncation by 100: port, files | 32 numbers in 1 window: read / memory |");
     println!("|---|---|---|---|---|---|---|---|---|---|");
     for kind in [Kind::Paired, Kind::Single] {
         let mut bare = 0.0;
@@ -404,7 +416,7 @@ fn size_table(folder: &Folder, setting: &Setting) {
                     bare = r.checks;
                 }
                 println!(
-                    "| {} | {rows} | {records} | {count} | {} | {each} | {}, {} | {}, {} | {}, {} | {}, {} |",
+                    "| {} | {rows} | {records} | {count} | {} | {each} | {}, {} | {}, {} | {}, {} | {:.2} |",
                     kind.name(),
                     us(r.checks),
                     us(a),
@@ -413,8 +425,7 @@ fn size_table(folder: &Folder, setting: &Setting) {
                     us(q),
                     us(v),
                     us(w),
-                    us(r.read()),
-                    us(r.memory)
+                    r.read_to_memory
                 );
             }
         }
@@ -424,14 +435,14 @@ fn size_table(folder: &Folder, setting: &Setting) {
 /// How cost grows with the wanted numbers.
 fn numbers_table(folder: &Folder, setting: &Setting) {
     println!("\n### Cost against wanted numbers, index of 1,048,576 records without rows\n");
-    println!("| kind | numbers | in 1 window: read, memory | rising: read, memory | over all windows: read, memory |");
+    println!("| kind | numbers | in 1 window: read, read / memory | rising: read, read / memory | over all windows: read, read / memory |");
     println!("|---|---|---|---|---|");
     for kind in [Kind::Paired, Kind::Single] {
         let index = build(kind, folder, 1 << 20, 0);
         for n in [1, 2, 4, 8, 16, 32, 33, 64, 128, 256, 512, 1024] {
             let cells = [Spread::OneWindow, Spread::Rising, Spread::AllWindows].map(|spread| {
                 let r = reading(&index, n, spread, setting);
-                format!("{}, {}", us(r.read()), us(r.memory))
+                format!("{}, {:.2}", us(r.read), r.read_to_memory)
             });
             println!("| {} | {n} | {} |", kind.name(), cells.join(" | "));
         }
@@ -447,7 +458,7 @@ fn main() {
     };
     let folder = Folder::new();
     println!(
-        "Microseconds, best of {} rounds in which the sides take turns; a ratio is the median over the rounds. Original's files: {}.",
+        "Microseconds, and ratios within a round: medians over {} rounds in which the sides take turns. Original's files: {}.",
         setting.rounds,
         folder.place()
     );
