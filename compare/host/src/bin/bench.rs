@@ -1,6 +1,6 @@
 //! Port and original on the same data in one process: opening, append, truncation, reading, and cost against index size.
 //! bench [--quick] [reading|storing|size|numbers]...   the tables named, all where none is
-//! Times are medians over the rounds, in microseconds; the sides take turns in every round.
+//! Times are the best of many short turns that the sides take one after the other, in microseconds.
 use host::areas::{empty, Areas, Kind, ROWS, SLOTS};
 use host::judge::{Batch, Folder, Judge};
 use host::pick::Pick;
@@ -70,62 +70,27 @@ fn build(kind: Kind, folder: &Folder, records: u64, rows_one_in: u64) -> Index {
     Index { kind, records, areas, judge, ends }
 }
 
-/// Seconds that one call of `f` takes, on average over about `span`.
-fn timed(span: Duration, f: &mut dyn FnMut()) -> f64 {
+fn turn(n: u32, f: &mut dyn FnMut()) -> f64 {
     let begun = Instant::now();
-    let mut n = 0u64;
-    let mut batch = 1;
-    loop {
-        for _ in 0..batch {
-            f();
-        }
-        n += batch;
-        let spent = begun.elapsed();
-        if spent >= span {
-            return spent.as_secs_f64() / n as f64;
-        }
-        batch = (batch * 2).min(n);
+    for _ in 0..n {
+        f();
     }
+    begun.elapsed().as_secs_f64() / f64::from(n)
 }
 
-/// Seconds that a call of each takes, in short turns of about 100 µs: their difference can be told where it is far smaller than they are.
-fn alternating(span: Duration, f: &mut dyn FnMut(), g: &mut dyn FnMut()) -> (f64, f64) {
-    let turn = |n: u64, h: &mut dyn FnMut()| {
-        let begun = Instant::now();
-        for _ in 0..n {
-            h();
+/// Seconds that a call of each side takes, in the best of many turns of about 100 µs that the sides take one after the other.
+fn best_turns(setting: &Setting, sides: &mut [&mut dyn FnMut()]) -> Vec<f64> {
+    let sizes: Vec<u32> = sides.iter_mut().map(|side| ((1e-4 / turn(4, *side)) as u32).max(1)).collect();
+    let mut best = vec![f64::MAX; sides.len()];
+    let begun = Instant::now();
+    let mut left = setting.least;
+    while left > 0 || begun.elapsed() < setting.span {
+        for ((side, n), best) in sides.iter_mut().zip(&sizes).zip(&mut best) {
+            *best = best.min(turn(*n, *side));
         }
-        begun.elapsed()
-    };
-    let n = (Duration::from_micros(100).as_nanos() / turn(8, g).as_nanos().max(8) * 8).max(1) as u64;
-    let (mut a, mut b, mut turns) = (Duration::ZERO, Duration::ZERO, 0);
-    while a + b < 2 * span || turns < 2 {
-        a += turn(n, f);
-        b += turn(n, g);
-        turns += n;
+        left = left.saturating_sub(1);
     }
-    (a.as_secs_f64() / turns as f64, b.as_secs_f64() / turns as f64)
-}
-
-fn median(mut list: Vec<f64>) -> f64 {
-    list.sort_by(f64::total_cmp);
-    list[list.len() / 2]
-}
-
-/// The median over the rounds of one side over another.
-fn share(a: &[f64], b: &[f64]) -> f64 {
-    median(a.iter().zip(b).map(|(a, b)| a / b).collect())
-}
-
-/// Times of the sides in each round; they take turns.
-fn rounds(setting: &Setting, sides: &mut [&mut dyn FnMut()]) -> Vec<Vec<f64>> {
-    let mut times = vec![Vec::new(); sides.len()];
-    for _ in 0..setting.rounds {
-        for (side, list) in sides.iter_mut().zip(&mut times) {
-            list.push(timed(setting.span, *side));
-        }
-    }
-    times
+    best
 }
 
 /// Which numbers a reading wants, and in which order they come.
@@ -209,16 +174,19 @@ fn on_files(judge: &Judge, numbers: &[Fk]) -> usize {
     }
 }
 
-/// One reading: times in seconds, and the median over the rounds of the port's share in the original's. `read` is a call without its checks.
+/// One reading: times in seconds.
 struct Reading {
     checks: f64,
-    read: f64,
+    call: f64,
     memory: f64,
     whole: f64,
-    read_to_memory: f64,
-    read_to_whole: f64,
-    call_to_memory: f64,
-    call_to_whole: f64,
+}
+
+impl Reading {
+    /// What a call takes after its checks.
+    fn read(&self) -> f64 {
+        self.call - self.checks
+    }
 }
 
 /// The checks of numbers 1 and 6 alone are a call that is refused with 15 just after them.
@@ -251,76 +219,52 @@ fn reading(index: &Index, n: usize, spread: Spread, setting: &Setting) -> Readin
         k = (k + 1) % lists.len();
         black_box(on_files(&index.judge, black_box(&numbers[k])));
     };
-    let [mut checks, mut call, mut memory, mut whole] = [const { Vec::new() }; 4];
-    for _ in 0..setting.rounds {
-        let (a, b) = alternating(setting.span, &mut check, &mut read);
-        checks.push(a);
-        call.push(b);
-        memory.push(timed(setting.span, &mut from_memory));
-        whole.push(timed(setting.span, &mut from_files));
-    }
-    let read: Vec<f64> = call.iter().zip(&checks).map(|(a, b)| a - b).collect();
-    Reading {
-        read_to_memory: share(&read, &memory),
-        read_to_whole: share(&read, &whole),
-        call_to_memory: share(&call, &memory),
-        call_to_whole: share(&call, &whole),
-        checks: median(checks),
-        read: median(read),
-        memory: median(memory),
-        whole: median(whole),
-    }
+    let best = best_turns(setting, &mut [&mut check, &mut read, &mut from_memory, &mut from_files]);
+    Reading { checks: best[0], call: best[1], memory: best[2], whole: best[3] }
 }
 
+/// How long the sides of one measurement take turns, and how often at least.
 struct Setting {
-    rounds: usize,
     span: Duration,
+    least: usize,
 }
 
 /// Times of append and of the truncation that takes it back, for port and original.
-fn storing(index: &mut Index, n: usize, rows_one_in: u64, setting: &Setting) -> [(f64, f64, f64); 2] {
+fn storing(index: &mut Index, n: usize, rows_one_in: u64, setting: &Setting) -> [(f64, f64); 2] {
     let mut pick = Pick::new(n as u64);
     let mut ends = index.ends;
     let b = batch(index.kind, &mut pick, n, rows_one_in, &mut ends);
     let (kind, records) = (index.kind, index.records);
-    let mut times: [[Vec<f64>; 2]; 2] = Default::default();
-    for _ in 0..setting.rounds {
+    let mut best = [[f64::MAX; 2]; 2];
+    let begun = Instant::now();
+    while begun.elapsed() < setting.span {
         for side in 0..2 {
-            let (mut append, mut truncate, mut turns) = (0.0, 0.0, 0);
-            let begun = Instant::now();
-            while begun.elapsed() < 2 * setting.span || turns < 3 {
-                let t0 = Instant::now();
-                let a = if side == 0 {
-                    port::append(kind, &mut index.areas, black_box(&b)).1
-                } else {
-                    index.judge.append(black_box(&b)).unwrap_or(0)
-                };
-                let t1 = Instant::now();
-                let c = if side == 0 {
-                    port::truncate(kind, &mut index.areas, black_box(records)).1
-                } else {
-                    index.judge.truncate(black_box(records)).unwrap_or(0)
-                };
-                let t2 = Instant::now();
-                assert_eq!((a, c), (records + n as u64, records));
-                append += (t1 - t0).as_secs_f64();
-                truncate += (t2 - t1).as_secs_f64();
-                turns += 1;
+            let t0 = Instant::now();
+            let a = if side == 0 {
+                port::append(kind, &mut index.areas, black_box(&b)).1
+            } else {
+                index.judge.append(black_box(&b)).unwrap_or(0)
+            };
+            let t1 = Instant::now();
+            let c = if side == 0 {
+                port::truncate(kind, &mut index.areas, black_box(records)).1
+            } else {
+                index.judge.truncate(black_box(records)).unwrap_or(0)
+            };
+            let t2 = Instant::now();
+            assert_eq!((a, c), (records + n as u64, records));
+            for (call, spent) in [t1 - t0, t2 - t1].into_iter().enumerate() {
+                best[call][side] = best[call][side].min(spent.as_secs_f64());
             }
-            times[0][side].push(append / f64::from(turns));
-            times[1][side].push(truncate / f64::from(turns));
         }
     }
-    times.map(|[port, original]| {
-        let ratio = share(&port, &original);
-        (median(port), median(original), ratio)
-    })
+    best.map(|[port, original]| (port, original))
 }
 
-fn opening(index: &mut Index, folder: &Folder, setting: &Setting) -> (f64, f64, f64) {
+fn opening(index: &mut Index, folder: &Folder, setting: &Setting) -> (f64, f64) {
     let kind = index.kind;
     let areas = &mut index.areas;
-    let times = rounds(
+    let best = best_turns(
         setting,
         &mut [
             &mut || {
@@ -331,9 +275,7 @@ fn opening(index: &mut Index, folder: &Folder, setting: &Setting) -> (f64, f64, 
             },
         ],
     );
-    let ratio = share(&times[0], &times[1]);
-    let [port, original] = times.try_into().unwrap();
-    (median(port), median(original), ratio)
+    (best[0], best[1])
 }
 
 fn us(seconds: f64) -> String {
@@ -364,13 +306,13 @@ fn reading_table(folder: &Folder, setting: &Setting) {
                         kind.name(),
                         spread.name(),
                         us(r.checks),
-                        us(r.read),
+                        us(r.read()),
                         us(r.memory),
                         us(r.whole),
-                        r.read_to_memory,
-                        r.read_to_whole,
-                        r.call_to_memory,
-                        r.call_to_whole
+                        r.read() / r.memory,
+                        r.read() / r.whole,
+                        r.call / r.memory,
+                        r.call / r.whole
                     );
                 }
             }
@@ -385,12 +327,12 @@ fn storing_table(folder: &Folder, setting: &Setting) {
     for kind in [Kind::Paired, Kind::Single] {
         for (rows, one_in) in DENSITIES {
             let mut index = build(kind, folder, 102_400, one_in);
-            let (a, b, r) = opening(&mut index, folder, setting);
-            println!("| {} | {rows} | open | {} | {} | {r:.2} |", kind.name(), us(a), us(b));
+            let (a, b) = opening(&mut index, folder, setting);
+            println!("| {} | {rows} | open | {} | {} | {:.2} |", kind.name(), us(a), us(b), a / b);
             for n in [1, 100, 1024] {
                 let both = storing(&mut index, n, one_in, setting);
-                for (name, (a, b, r)) in ["append of", "truncation by"].iter().zip(both) {
-                    println!("| {} | {rows} | {name} {n} | {} | {} | {r:.2} |", kind.name(), us(a), us(b));
+                for (name, (a, b)) in ["append of", "truncation by"].iter().zip(both) {
+                    println!("| {} | {rows} | {name} {n} | {} | {} | {:.2} |", kind.name(), us(a), us(b), a / b);
                 }
             }
         }
@@ -409,9 +351,9 @@ fn size_table(folder: &Folder, setting: &Setting) {
                 let mut index = build(kind, folder, records, one_in);
                 let count = index.row_count();
                 let r = reading(&index, 32, Spread::OneWindow, setting);
-                let (a, b, _) = opening(&mut index, folder, setting);
-                let [(p, q, _), (v, w, _)] = storing(&mut index, 100, one_in, setting);
-                let each = if count == 0 { "".to_string() } else { format!("{:.2}", (r.checks - bare) * 1e9 / count as f64) };
+                let (a, b) = opening(&mut index, folder, setting);
+                let [(p, q), (v, w)] = storing(&mut index, 100, one_in, setting);
+                let each = if count < 1000 { String::new() } else { format!("{:.2}", (r.checks - bare) * 1e9 / count as f64) };
                 if count == 0 {
                     bare = r.checks;
                 }
@@ -425,7 +367,7 @@ fn size_table(folder: &Folder, setting: &Setting) {
                     us(q),
                     us(v),
                     us(w),
-                    r.read_to_memory
+                    r.read() / r.memory
                 );
             }
         }
@@ -442,7 +384,7 @@ fn numbers_table(folder: &Folder, setting: &Setting) {
         for n in [1, 2, 4, 8, 16, 32, 33, 64, 128, 256, 512, 1024] {
             let cells = [Spread::OneWindow, Spread::Rising, Spread::AllWindows].map(|spread| {
                 let r = reading(&index, n, spread, setting);
-                format!("{}, {:.2}", us(r.read), r.read_to_memory)
+                format!("{}, {:.2}", us(r.read()), r.read() / r.memory)
             });
             println!("| {} | {n} | {} |", kind.name(), cells.join(" | "));
         }
@@ -452,16 +394,12 @@ fn numbers_table(folder: &Folder, setting: &Setting) {
 fn main() {
     let words: Vec<String> = std::env::args().skip(1).collect();
     let setting = if words.iter().any(|w| w == "--quick") {
-        Setting { rounds: 5, span: Duration::from_millis(1) }
+        Setting { span: Duration::from_millis(20), least: 3 }
     } else {
-        Setting { rounds: 15, span: Duration::from_millis(6) }
+        Setting { span: Duration::from_millis(400), least: 8 }
     };
     let folder = Folder::new();
-    println!(
-        "Microseconds, and ratios within a round: medians over {} rounds in which the sides take turns. Original's files: {}.",
-        setting.rounds,
-        folder.place()
-    );
+    println!("Microseconds, the best of many short turns that the sides take one after the other. Original's files: {}.", folder.place());
     let tables: [(&str, fn(&Folder, &Setting)); 4] =
         [("reading", reading_table), ("storing", storing_table), ("size", size_table), ("numbers", numbers_table)];
     let named = |w: &String| tables.iter().any(|(name, _)| name == w);
