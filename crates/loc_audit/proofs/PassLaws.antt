@@ -20,10 +20,10 @@ use Rattle.loc_leaf.specs.Bytes.{Bytes}
 use Rattle.loc_leaf.specs.Area.{counted, fill}
 use Rattle.loc_leaf.specs.Kind.{rowWidth, checkpointWidth}
 use Rattle.loc_leaf.specs.Slot.{needsRow, inline, slotAt}
-use Rattle.loc_leaf.specs.Rows.{rowValue, hasRow, rowList, lookup, slotValue, ascending}
+use Rattle.loc_leaf.specs.Rows.{rowValue, hasRow, rowList, lookup, slotValue, ascending, valueIn}
 use Rattle.loc_leaf.proofs.Booleans.{is?}
 use Rattle.loc_calls.specs.Areas.{Areas, areas, count}
-use Rattle.loc_calls.specs.Reading.{sumAfter, allAfter, lookupAt, has, valueIn, valueAt, stridesAfter, spansAfter, windowEnd}
+use Rattle.loc_calls.specs.Reading.{sumAfter, allAfter, lookupAt, has, valueAt, stridesAfter, spansAfter, windowEnd}
 use Rattle.loc_calls.specs.Audit.{bodySum, spanSum, bothEnds, checkpointSound, sound}
 use Rattle.loc_rows.specs.Reader.{rowAt, rowsFrom}
 use Rattle.loc_rows.proofs.ReaderLaws.{rows-lent}

@@ -1,6 +1,6 @@
 -- What an append leaves at each of its places, and what any bytes past the published ends leave.
 -- One law for an area serves slots, rows and checkpoints.
-use Prim.Native.Nat.{ℕ, suc, _+_, _*_, _/_, _≤_}
+use Prim.Native.Nat.{ℕ, suc, _+_, _*_, _/_, _^_, _≤_, _<_}
 use mathlib.Core.Path.{_≡_, refl, sym, ap, _∙_, subst}
 use mathlib.Core.Bool.{cond}
 use mathlib.Core.List.{List, _++_, flatten}
@@ -14,7 +14,7 @@ use Rattle.loc_leaf.specs.Bytes.{Bytes}
 use Rattle.loc_leaf.specs.Area.{counted, storeLength, storePast}
 use Rattle.loc_leaf.specs.Kind.{rowWidth, checkpointWidth}
 use Rattle.loc_leaf.proofs.AreaLaws.{Widths, length-flatten, counted-storePast}
-use Rattle.loc_calls.specs.Areas.{Three, Areas}
+use Rattle.loc_calls.specs.Areas.{Three, each₂, Areas}
 use Rattle.loc_calls.specs.Table.{Entry}
 use Rattle.loc_calls.specs.Stores.{Place, rowLength, checkpointLength, write, step, run, differing, gather, slotOf, rowOf, checkpointOf, staged, newEnd, newEnds, appendPlaces}
 use Rattle.loc_calls.proofs.Holds.{Holds, storeDiffering, set-differing, forget, past-holds, extend}
@@ -27,7 +27,7 @@ use Rattle.loc_calls.proofs.Batches.{Fits}
 
 -- the area's pieces of the list E are published, and there is room for those of es
 module _ (w : ℕ) (xs : Bytes) (f : ℕ → Entry → List Bytes) (E es : List Entry) (n : ℕ) (items : List Bytes) (h : Holds w xs items n)
-    (first : take n items ≡ gather f 0 E) (ws : Widths w (gather f (length E) es)) (fits : newEnd xs (gather f (length E) es) ≤ length xs) where
+    (first : take n items ≡ gather f 0 E) (ws : Widths w (gather f (length E) es)) (fits : newEnd xs (gather f (length E) es) ≤ length xs) (below : newEnd xs (gather f (length E) es) < 2 ^ 64) where
   abbrev new : List Bytes
   new = gather f (length E) es
 
@@ -40,7 +40,7 @@ module _ (w : ℕ) (xs : Bytes) (f : ℕ → Entry → List Bytes) (E es : List 
   -- the bytes stand behind the published ones
   pub written-holds : Holds w written (gather f 0 (E ++ es)) n
   unfolding newEnd
-  written-holds = subst (λ (l : List Bytes). Holds w written l n) (rw first (sym (gather-after f E es))) (extend w xs items n new h ws fits)
+  written-holds = subst (λ (l : List Bytes). Holds w written l n) (rw first (sym (gather-after f E es))) (extend w xs items n new h ws fits below)
 
   -- and a stored length publishes them
   pub grown-holds : Holds w (cond (eqb (newEnd xs new) (counted xs)) written (storeLength (newEnd xs new) written)) (gather f 0 (E ++ es)) (length (gather f 0 (E ++ es)))
@@ -86,6 +86,12 @@ new-ends k a E es s =
       length-checkpoints k (E ++ es),
     ) refl
 
+-- ends that eight bytes hold
+pub record AllBelow (ends : Three ℕ) : Type 0 where
+  pub slots : ends .slots < 2 ^ 64
+  pub rows : ends .rows < 2 ^ 64
+  pub checkpoints : ends .checkpoints < 2 ^ 64
+
 -- ---- any bytes
 
 -- what holds a list whole does so with any bytes past the published ends
@@ -109,7 +115,7 @@ written-full k a E b s = record {
 
 -- ---- the four places
 
-module _ (k : Kind) (a : Areas) (E es : List Entry) (s : Full k a E) (v : AllValid k es) (fits : Fits a (staged k (length E) es)) where
+module _ (k : Kind) (a : Areas) (E es : List Entry) (s : Full k a E) (v : AllValid k es) (fits : Fits a (staged k (length E) es)) (below : AllBelow (wholeEnds k (E ++ es))) where
   abbrev b : Three (List Bytes)
   b = staged k (length E) es
 
@@ -121,6 +127,10 @@ module _ (k : Kind) (a : Areas) (E es : List Entry) (s : Full k a E) (v : AllVal
 
   abbrev places : List Place
   places = appendPlaces a b
+
+  new-below : AllBelow (each₂ newEnd a b)
+  unfolding newEnds
+  new-below = rw (count-is k a E _ _ s) at (subst AllBelow (sym (new-ends k a E es s)) below)
 
   all-rows : take r (take (suc r) (rowsOf k E)) ≡ rowsOf k E
   all-rows = take-take r (suc r) (rowsOf k E) (omega arith) ∙ take-length (rowsOf k E)
@@ -167,23 +177,23 @@ module _ (k : Kind) (a : Areas) (E es : List Entry) (s : Full k a E) (v : AllVal
   unfolding staged
   slots-grown =
       subst (Holds 2 (grow (a .slots) (b .slots)) (slotsOf k (E ++ es))) (length-slots k 0 (E ++ es))
-      (grown-holds 2 (a .slots) (slotOf k) E es (length E) (slotsOf k E) (s .slots) all-slots (widths-slots k (length E) es) (fits .slots))
+      (grown-holds 2 (a .slots) (slotOf k) E es (length E) (slotsOf k E) (s .slots) all-slots (widths-slots k (length E) es) (fits .slots) (new-below .slots))
 
   rows-written : Holds (rowWidth k) (storePast (flatten (b .rows)) (a .rows)) (rowsOf k (E ++ es)) r
   unfolding staged
-  rows-written = written-holds (rowWidth k) (a .rows) (rowOf k) E es r (take (suc r) (rowsOf k E)) (s .rows) all-rows (widths-rows k (length E) es) (fits .rows)
+  rows-written = written-holds (rowWidth k) (a .rows) (rowOf k) E es r (take (suc r) (rowsOf k E)) (s .rows) all-rows (widths-rows k (length E) es) (fits .rows) (new-below .rows)
 
   rows-grown : Holds (rowWidth k) (grow (a .rows) (b .rows)) (take (suc (length (rowsOf k (E ++ es)))) (rowsOf k (E ++ es))) (length (rowsOf k (E ++ es)))
   unfolding staged
   rows-grown =
       rw (take-all (suc (length (rowsOf k (E ++ es)))) (rowsOf k (E ++ es)) (omega arith))
-      (grown-holds (rowWidth k) (a .rows) (rowOf k) E es r (take (suc r) (rowsOf k E)) (s .rows) all-rows (widths-rows k (length E) es) (fits .rows))
+      (grown-holds (rowWidth k) (a .rows) (rowOf k) E es r (take (suc r) (rowsOf k E)) (s .rows) all-rows (widths-rows k (length E) es) (fits .rows) (new-below .rows))
 
   checkpoints-written : Holds (checkpointWidth k) (storePast (flatten (b .checkpoints)) (a .checkpoints)) (take c (checkpointsOf k (E ++ es))) c
   unfolding staged
   checkpoints-written =
       forget (checkpointWidth k) _ _ c c
-      (written-holds (checkpointWidth k) (a .checkpoints) (checkpointOf k) E es c (take c (checkpointsOf k E)) (s .checkpoints) all-checkpoints (widths-checkpoints k (length E) es) (fits .checkpoints))
+      (written-holds (checkpointWidth k) (a .checkpoints) (checkpointOf k) E es c (take c (checkpointsOf k E)) (s .checkpoints) all-checkpoints (widths-checkpoints k (length E) es) (fits .checkpoints) (new-below .checkpoints))
       (le-refl c)
 
   checkpoints-grown : Holds (checkpointWidth k) (grow (a .checkpoints) (b .checkpoints)) (take (length (E ++ es) / 1024) (checkpointsOf k (E ++ es))) (length (E ++ es) / 1024)
@@ -191,7 +201,7 @@ module _ (k : Kind) (a : Areas) (E es : List Entry) (s : Full k a E) (v : AllVal
   checkpoints-grown =
       rw (take-all (length (E ++ es) / 1024) (checkpointsOf k (E ++ es)) (omega (arith, length-checkpoints k (E ++ es))))
       (subst (Holds (checkpointWidth k) (grow (a .checkpoints) (b .checkpoints)) (checkpointsOf k (E ++ es))) (length-checkpoints k (E ++ es))
-      (grown-holds (checkpointWidth k) (a .checkpoints) (checkpointOf k) E es c (take c (checkpointsOf k E)) (s .checkpoints) all-checkpoints (widths-checkpoints k (length E) es) (fits .checkpoints)))
+      (grown-holds (checkpointWidth k) (a .checkpoints) (checkpointOf k) E es c (take c (checkpointsOf k E)) (s .checkpoints) all-checkpoints (widths-checkpoints k (length E) es) (fits .checkpoints) (new-below .checkpoints)))
 
   valid-all : AllValid k (E ++ es)
   valid-all = valid-append k E es (s .valid) v

@@ -10,12 +10,12 @@ use Rattle.loc_leaf.specs.Bytes.{Bytes, number, bytes, numberAt, store}
 use Rattle.loc_leaf.specs.Answers.{answer}
 use Rattle.loc_leaf.specs.Area.{counted, storeLength, storePast, pieces, fill, published}
 use Rattle.loc_leaf.specs.Slot.{stridesRefusal, slot, needsRow, inline, slotAt, checkpointRule}
-use Rattle.loc_leaf.specs.Rows.{row, rowNumber, rowValue, rowList, ascending, lastNumber, rowsUpTo, rowFor, hasRow, lookup, slotValue}
+use Rattle.loc_leaf.specs.Rows.{row, rowNumber, rowValue, rowList, ascending, lastNumber, rowsUpTo, rowFor, hasRow, lookup, slotValue, valueIn}
 use Rattle.loc_leaf.specs.Cut.{matches, cuts, cutFor}
 use Rattle.loc_calls.specs.Areas.{Three, each, Areas, sizes, count}
 use Rattle.loc_calls.specs.Table.{valueOf, bodyAfter, spanAfter, Call, opening, append, truncate, read, zipped, entries, uneven, spanless, breaks, entryRefusal, entriesRefusal, endPast, batchRefusal, table}
 use Rattle.loc_calls.specs.Stores.{step, run, differing, truncatePlaces, nextRow, holdsNext, cutRule, ruledCount, ruled, openPlaces, ragged, openRefusal, stores, anyStores, settled, checkpoint, gather, rowOf, checkpointOf, staged, newEnd, newEnds, appendPlaces}
-use Rattle.loc_calls.specs.Reading.{sumAfter, allAfter, lookupAt, has, valueIn, valueAt, stridesAfter, spansAfter, checkpointAt, windowEnd, lookedAt, within, rowMissing, anyMissing, words, wordsFor, answered, found}
+use Rattle.loc_calls.specs.Reading.{sumAfter, allAfter, lookupAt, has, valueAt, stridesAfter, spansAfter, checkpointAt, windowEnd, lookedAt, within, rowMissing, anyMissing, words, wordsFor, answered, found}
 use Rattle.loc_calls.specs.Audit.{bodySum, spanSum, checkpointSound, sound}
 use Rattle.loc_calls.specs.Calls.{unlessRefused, tooSmall, unread, isOpening, refusal, places, placeCount, value, lent, buffer, areasAfter, call, createPlaces, create, audit}
 

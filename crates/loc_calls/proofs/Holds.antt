@@ -20,9 +20,9 @@ use Rattle.loc_calls.specs.Stores.{ragged}
 
 pub record Holds (w : ℕ) (xs : Bytes) (items : List Bytes) (n : ℕ) : Type 0 where
   pub big : 16 ≤ length xs
-  pub small : length xs < 2 ^ 64
   pub end : counted xs ≡ 16 + w * n
   pub inside : n ≤ length items
+  pub below : 16 + w * length items < 2 ^ 64
   pub room : 16 + w * length items ≤ length xs
   pub same : pieces w (length items) (drop 16 xs) ≡ items
 
@@ -54,9 +54,9 @@ module _ (w : ℕ) (xs : Bytes) (items : List Bytes) (n : ℕ) (h : Holds w xs i
 pub forget : (w : ℕ) (xs : Bytes) (items : List Bytes) (n j : ℕ) → Holds w xs items n → n ≤ j → Holds w xs (take j items) n
 forget w xs items n j h g = record {
   big = h .big;
-  small = h .small;
   end = h .end;
   inside = rw (length-take j items) (omega (arith, h .inside));
+  below = omega (arith, mul-le-mul-left w shorter, h .below);
   room = omega (arith, mul-le-mul-left w shorter, h .room);
   same = holds-pieces w xs items n h (length (take j items)) shorter ∙ take-own j items;
 }
@@ -69,9 +69,9 @@ forget w xs items n j h g = record {
 pub set-length : (w : ℕ) (xs : Bytes) (items : List Bytes) (n m : ℕ) → Holds w xs items n → m ≤ length items → Holds w (storeLength (16 + w * m) xs) items m
 set-length w xs items n m h g = record {
   big = rw (length-storeLength (16 + w * m) xs) (h .big);
-  small = rw (length-storeLength (16 + w * m) xs) (h .small);
-  end = counted-storeLength (16 + w * m) xs (omega arith) (omega (arith, mul-le-mul-left w g, h .room)) (h .small);
+  end = counted-storeLength (16 + w * m) xs (omega arith) (omega (arith, mul-le-mul-left w g, h .room)) (omega (arith, mul-le-mul-left w g, h .below));
   inside = g;
+  below = h .below;
   room = rw (length-storeLength (16 + w * m) xs) (h .room);
   same = rw (drop-storeLength (16 + w * m) xs) (h .same);
 }
@@ -85,17 +85,17 @@ unfolding storeDiffering
 set-differing w xs items n m h g = go (is? (eqb (16 + w * m) (counted xs)))
   where
     go : ((eqb (16 + w * m) (counted xs)) ≡ true) ⊎ ((eqb (16 + w * m) (counted xs)) ≡ false) → Holds w (cond (eqb (16 + w * m) (counted xs)) xs (storeLength (16 + w * m) xs)) items m
-    go (inl e) = rw e (record { big = h .big; small = h .small; end = sym (eqb-true _ _ e); inside = g; room = h .room; same = h .same })
+    go (inl e) = rw e (record { big = h .big; end = sym (eqb-true _ _ e); inside = g; below = h .below; room = h .room; same = h .same })
     go (inr e) = rw e (set-length w xs items n m h g)
 
 -- an area fresh from creation
-pub fresh : (w : ℕ) (xs : Bytes) → 16 ≤ length xs → length xs < 2 ^ 64 → Holds w (storeLength 16 xs) [] 0
+pub fresh : (w : ℕ) (xs : Bytes) → 16 ≤ length xs → Holds w (storeLength 16 xs) [] 0
 unfolding pieces
-fresh w xs g l = record {
+fresh w xs g = record {
   big = rw (length-storeLength 16 xs) g;
-  small = rw (length-storeLength 16 xs) l;
-  end = counted-storeLength 16 xs (omega arith) g l ∙ rw (mul-zero w) refl;
+  end = counted-storeLength 16 xs (omega arith) g (omega arith) ∙ rw (mul-zero w) refl;
   inside = le-refl 0;
+  below = rw (mul-zero w) (omega arith);
   room = rw (mul-zero w, length-storeLength 16 xs) g;
   same = refl;
 }
@@ -115,9 +115,9 @@ module _ (w : ℕ) (xs : Bytes) (items : List Bytes) (n : ℕ) (h : Holds w xs i
   pub past-holds : Holds w (storePast bs xs) (take n items) n
   past-holds = record {
     big = rw (length-storePast bs xs) (h .big);
-    small = rw (length-storePast bs xs) (h .small);
     end = counted-storePast bs xs (h .big) ∙ h .end;
     inside = omega (arith, total);
+    below = rw total (omega (arith, mul-le-mul-left w (h .inside), h .below));
     room = rw (total, length-storePast bs xs) (omega (arith, counted-le xs, h .end));
     same = rw total past-pieces;
   }
@@ -127,12 +127,12 @@ module _ (w : ℕ) (xs : Bytes) (items : List Bytes) (n : ℕ) (h : Holds w xs i
 
 -- new pieces, where they fit, stand behind the published ones
 pub extend : (w : ℕ) (xs : Bytes) (items : List Bytes) (n : ℕ) (new : List Bytes) → Holds w xs items n → Widths w new → counted xs + length (flatten new) ≤ length xs
-    → Holds w (storePast (flatten new) xs) (take n items ++ new) n
-extend w xs items n new h ws fits = record {
+    → counted xs + length (flatten new) < 2 ^ 64 → Holds w (storePast (flatten new) xs) (take n items ++ new) n
+extend w xs items n new h ws fits few = record {
   big = rw (length-storePast (flatten new) xs) (h .big);
-  small = rw (length-storePast (flatten new) xs) (h .small);
   end = counted-storePast (flatten new) xs (h .big) ∙ h .end;
   inside = omega (arith, total);
+  below = rw total (omega (arith, h .end, length-flatten w new ws, mul-add w n (length new)));
   room = rw (total, length-storePast (flatten new) xs) (omega (arith, h .end, length-flatten w new ws, mul-add w n (length new)));
   same = rw (total, pieces-add w n (length new) (drop 16 (storePast (flatten new) xs)), past-pieces w xs items n h (flatten new), behind, pieces-flatten w new rest ws) refl;
 }

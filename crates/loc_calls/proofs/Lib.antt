@@ -7,6 +7,7 @@ pub mod Outcomes
 pub mod Chains
 pub mod Batches
 pub mod Appending
+pub mod Bounds
 pub mod Reading
 pub mod Audited
 pub mod Examples

@@ -18,14 +18,14 @@ use Rattle.loc_leaf.specs.Bytes.{Bytes, bytes, numberAt}
 use Rattle.loc_leaf.specs.Area.{published}
 use Rattle.loc_leaf.specs.Kind.{checkpointWidth}
 use Rattle.loc_leaf.specs.Slot.{slot, needsRow, storedAsZero, slotAt}
-use Rattle.loc_leaf.specs.Rows.{row, rowNumber, rowList, rowFor, hasRow, lookup, slotValue}
+use Rattle.loc_leaf.specs.Rows.{row, rowNumber, rowList, rowFor, hasRow, lookup, slotValue, valueIn}
 use Rattle.loc_leaf.proofs.Booleans.{is?, both-left, both-right}
 use Rattle.loc_leaf.proofs.Stored.{length-bytes, at-first, at-past}
 use Rattle.loc_leaf.proofs.ValueLaws.{Valid, row-number, row-value, needs-row, inline-own}
 use Rattle.loc_calls.specs.Areas.{Areas}
 use Rattle.loc_calls.specs.Table.{Entry, valueOf, saturated, bodyAfter, spanAfter, wordWidth, Call, opening, append, truncate, read}
 use Rattle.loc_calls.specs.Stores.{checkpoint, gather, rowOf, checkpointOf}
-use Rattle.loc_calls.specs.Reading.{sumAfter, allAfter, lookupAt, has, valueIn, valueAt, stridesAfter, spansAfter, before, checkpointAt, windowEnd, lookedAt, within, rowMissing, anyMissing, words, wordsFor}
+use Rattle.loc_calls.specs.Reading.{sumAfter, allAfter, lookupAt, has, valueAt, stridesAfter, spansAfter, before, checkpointAt, windowEnd, lookedAt, within, rowMissing, anyMissing, words, wordsFor}
 use Rattle.loc_calls.specs.Calls.{unread}
 use Rattle.loc_calls.proofs.Holds.{holds-published, holds-get}
 use Rattle.loc_calls.proofs.Gathered.{slotsOf, rowsOf, checkpointsOf, ValidEntry, AllValid, valid-at, gather-after, length-slots, length-checkpoints}

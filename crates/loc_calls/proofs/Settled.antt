@@ -1,6 +1,6 @@
 -- Sizes never change; areas that hold a list whole are settled, and what refuses a call on them; creation.
 -- An opening of areas that hold a list, whole or not, is never refused.
-use Prim.Native.Nat.{ℕ, zero, suc, _+_, _*_, _/_, _^_, _≤_, _<_}
+use Prim.Native.Nat.{ℕ, zero, suc, _+_, _*_, _/_, _≤_}
 use mathlib.Core.Path.{_≡_, refl, sym, ap, _∙_}
 use mathlib.Core.Bool.{true, false, not}
 use mathlib.Core.List.{List, [], _∷_}
@@ -139,11 +139,11 @@ module _ (a : Areas) (gs : 16 ≤ length (a .slots)) (gr : 16 ≤ length (a .row
   created = rw (le-ltb _ _ gs, le-ltb _ _ gr, le-ltb _ _ gc) refl
 
   -- it leaves the empty list, whole
-  pub created-full : (k : Kind) → length (a .slots) < 2 ^ 64 → length (a .rows) < 2 ^ 64 → length (a .checkpoints) < 2 ^ 64 → Full k (run 3 createPlaces a) []
+  pub created-full : (k : Kind) → Full k (run 3 createPlaces a) []
   unfolding createPlaces run step gather AllValid
-  created-full k ls lr lc = record {
-    slots = fresh 2 (a .slots) gs ls;
-    rows = fresh (rowWidth k) (a .rows) gr lr;
-    checkpoints = fresh (checkpointWidth k) (a .checkpoints) gc lc;
+  created-full k = record {
+    slots = fresh 2 (a .slots) gs;
+    rows = fresh (rowWidth k) (a .rows) gr;
+    checkpoints = fresh (checkpointWidth k) (a .checkpoints) gc;
     valid = tt;
   }

@@ -47,7 +47,7 @@ module _ (k : Kind) (a : Areas) (E : List Entry) (r c : ℕ) (s : State k a E r 
   count-is = holds-fill 2 (a .slots) (slotsOf k E) (length E) (s .slots) (zero-lt-suc 1)
 
   pub few : length E < 2 ^ 64
-  few = omega (arith, s .slots .room, s .slots .small, length-slots k 0 E)
+  few = omega (arith, s .slots .below, length-slots k 0 E)
 
   pub rows-inside : r ≤ length (rowsOf k E)
   rows-inside = omega (arith, s .rows .inside, length-take (suc r) (rowsOf k E))

@@ -13,7 +13,7 @@ use Rattle.loc_leaf.specs.declared.delta_loc.Lookup.the-variants.{Found, Missin
 use Rattle.loc_leaf.specs.Bytes.{Bytes, numberAt}
 use Rattle.loc_leaf.specs.Kind.{checkpointWidth, windowOf, withinWindow}
 use Rattle.loc_leaf.specs.Slot.{slotAt}
-use Rattle.loc_leaf.specs.Rows.{rowList, slotValue}
+use Rattle.loc_leaf.specs.Rows.{rowList, slotValue, valueIn}
 use Rattle.loc_calls.specs.Areas.{Areas, count}
 use Rattle.loc_calls.specs.Table.{wordWidth, saturated}
 
@@ -37,11 +37,6 @@ lookupAt k a id = slotValue k (rowList k (a .rows)) id (slotAt (a .slots) id)
 unfoldable pub has : Lookup → Bool
 has (Found v) = true
 has Missing = false
-
--- the value, of no strides and spans where its row is missing
-unfoldable pub valueIn : Lookup → Value
-valueIn (Found v) = v
-valueIn Missing = record { strides = 0; spans = 0 }
 
 unfoldable pub valueAt : Kind → Areas → ℕ → Value
 valueAt k a id = valueIn (lookupAt k a id)

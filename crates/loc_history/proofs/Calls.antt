@@ -178,7 +178,7 @@ module _ (k : Kind) (a : Areas) (L : List Rec) (p : Pending k a L) where
 
 module _ (k : Kind) (a : Areas) (L : List Rec) (t : Steady k a L) where
   -- an accepted batch
-  module _ (b : Batch) (n : Narrow (b .spanCounts)) (ok : bookRefusal k (sizes a) L (append b) ≡ 0) (f : Follows k L (entries k b)) where
+  module _ (b : Batch) (n : Narrow k (b .spanCounts)) (ok : bookRefusal k (sizes a) L (append b) ≡ 0) (f : Follows k L (entries k b)) where
     batch-ok : batchRefusal k (newEnds k a (entries k b)) (sizes a) (entries k b) ≡ 0
     unfolding bookRefusal table
     batch-ok =

@@ -12,12 +12,12 @@ use Rattle.loc_leaf.specs.Bytes.{number, bytes, numberAt, store}
 use Rattle.loc_leaf.specs.Answers.{answer}
 use Rattle.loc_leaf.specs.Area.{counted, storeLength, storePast, pieces, fill, published}
 use Rattle.loc_leaf.specs.Slot.{stridesRefusal, slot, storedAsZero, needsRow, inline, slotAt, checkpointRule}
-use Rattle.loc_leaf.specs.Rows.{row, rowNumber, rowValue, rowList, ascending, lastNumber, rowsUpTo, rowFor, hasRow, lookup, slotValue}
+use Rattle.loc_leaf.specs.Rows.{row, rowNumber, rowValue, rowList, ascending, lastNumber, rowsUpTo, rowFor, hasRow, lookup, slotValue, valueIn}
 use Rattle.loc_leaf.specs.Cut.{matches, cuts, cutFor}
 use Rattle.loc_calls.specs.Areas.{Areas, sizes, count}
 use Rattle.loc_calls.specs.Table.{valueOf, bodyAfter, spanAfter, Batch, opening, append, truncate, read, zipped, entries, uneven, spanless, breaks, entryRefusal, entriesRefusal, endPast, batchRefusal, table}
 use Rattle.loc_calls.specs.Stores.{step, run, differing, truncatePlaces, nextRow, holdsNext, cutRule, ruledCount, ruled, openPlaces, ragged, openRefusal, stores, anyStores, settled, checkpoint, gather, rowOf, checkpointOf, staged, newEnd, newEnds, appendPlaces}
-use Rattle.loc_calls.specs.Reading.{sumAfter, allAfter, lookupAt, has, valueIn, valueAt, stridesAfter, spansAfter, checkpointAt, windowEnd, lookedAt, within, rowMissing, anyMissing, words, wordsFor, answered, found}
+use Rattle.loc_calls.specs.Reading.{sumAfter, allAfter, lookupAt, has, valueAt, stridesAfter, spansAfter, checkpointAt, windowEnd, lookedAt, within, rowMissing, anyMissing, words, wordsFor, answered, found}
 use Rattle.loc_calls.specs.Calls.{unlessRefused, tooSmall, unread, isOpening, refusal, places, value, lent, buffer, areasAfter, call, createPlaces, create}
 use Rattle.loc_history.specs.Book.{recOf, records, lenSum, spanSum, bodyEnd, spanEnd, checkpointCount, takesRow, rowCount, bookEnds, bookRefusal, bookNext, recordWords, bookWords, Reply, bookReply, longest, longestPart, appendTorn, truncateTorn, bookTorn}
 use Rattle.loc_history.specs.History.{Event, finished, torn, tornBytes, indexAfter, indexGives, indexReplies, bookAfter, bookGives, bookReplies, FirstAt, StartsAt16, CarriesOn, EndsBelow, Narrow, LawfulCall, Awaited, BeforeEnd, LawfulEvent, isTear, Lawful, Sized, AllSized, Demand3}
@@ -146,7 +146,7 @@ longStory =
 abbrev longReplies : List Reply
 longReplies = gives 0 1023 ∷ gives 0 0 ∷ gives 0 1026 ∷ reads 2 (1 ∷ 41016 ∷ 40 ∷ 16416 ∷ 16 ∷ 2 ∷ 1 ∷ 96 ∷ 40 ∷ 48 ∷ 16 ∷ 2 ∷ []) ∷ gives 0 1023 ∷ []
 
-narrow : (n c : ℕ) → c < 2 ^ 32 → Narrow (replicate n c)
+narrow : (n c : ℕ) → c < 2 ^ 32 → Narrow Paired (replicate n c)
 unfolding Narrow
 narrow zero c h = tt
 narrow (suc n) c h = (h, narrow n c h)
@@ -179,8 +179,8 @@ computed = record {
   single = (refl, refl);
   forged = (refl, refl);
   edge = refl;
-  edge-sized = record { slots = (omega arith, omega arith); rows = (omega arith, omega arith); checkpoints = (omega arith, omega arith) };
-  sized = record { slots = (omega arith, omega arith); rows = (omega arith, omega arith); checkpoints = (omega arith, omega arith) };
+  edge-sized = record { slots = omega arith; rows = omega arith; checkpoints = omega arith };
+  sized = record { slots = omega arith; rows = omega arith; checkpoints = omega arith };
   lawful =
       ((λ p. p), ((omega arith, (omega arith, tt)), λ _. record { starts = (refl, refl); carries = tt; ends = (omega arith, omega arith) }))
       then ((λ p. p), tt)

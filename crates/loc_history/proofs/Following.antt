@@ -40,7 +40,7 @@ unfolding AllValid spans SpansFit valueOf
 no-spans [] v = refl
 no-spans (e ∷ E) v = omega (arith, v .0 .value .spansFit, no-spans E (v .1))
 
-zipped-narrow : (ss ls ps cs : List ℕ) → Narrow cs → SpansOf Paired (zipped ss ls ps cs)
+zipped-narrow : (ss ls ps cs : List ℕ) → Narrow Paired cs → SpansOf Paired (zipped ss ls ps cs)
 unfolding SpansOf zipped Narrow
 zipped-narrow [] ls ps cs n = tt
 zipped-narrow (s ∷ ss) [] ps cs n = tt
@@ -48,7 +48,7 @@ zipped-narrow (s ∷ ss) (l ∷ ls) [] cs n = tt
 zipped-narrow (s ∷ ss) (l ∷ ls) (p ∷ ps) [] n = tt
 zipped-narrow (s ∷ ss) (l ∷ ls) (p ∷ ps) (c ∷ cs) n = (n .0, zipped-narrow ss ls ps cs (n .1))
 
-pub batch-spans : (k : Kind) (b : Batch) → Narrow (b .spanCounts) → SpansOf k (entries k b)
+pub batch-spans : (k : Kind) (b : Batch) → Narrow k (b .spanCounts) → SpansOf k (entries k b)
 unfolding entries
 batch-spans Paired b n = zipped-narrow (b .starts) (b .lens) (b .spanStarts) (b .spanCounts) n
 batch-spans Single b n = single-spans b

@@ -111,14 +111,14 @@ module _ (k : Kind) (a : Areas) (z : AllSized a) (es : List Event) (lawful : Law
 
   created-here : (create a) .areas ≡ start
   unfolding Sized
-  created-here = created a (z .slots .0) (z .rows .0) (z .checkpoints .0)
+  created-here = created a (z .slots) (z .rows) (z .checkpoints)
 
   -- it leaves the empty list
   steady : Steady k start []
   unfolding Sized
   steady = record {
     E = [];
-    full = created-full a (z .slots .0) (z .rows .0) (z .checkpoints .0) k (z .slots .1) (z .rows .1) (z .checkpoints .1);
+    full = created-full a (z .slots) (z .rows) (z .checkpoints) k;
     is = refl;
     good = good-nil;
   }

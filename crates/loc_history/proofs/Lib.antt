@@ -3,5 +3,6 @@ pub mod Steady
 pub mod Following
 pub mod Calls
 pub mod History
+pub mod Numbers
 pub mod Kept
 pub mod Examples

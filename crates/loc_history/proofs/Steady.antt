@@ -15,7 +15,8 @@ use Rattle.loc_calls.proofs.State.{State, count-is, truncated-1, truncated-2}
 use Rattle.loc_calls.proofs.Opening.{Full, Partial, full-partial, truncate-done, opening-torn, opening-done}
 use Rattle.loc_calls.proofs.Chains.{Good, good-take}
 use Rattle.loc_calls.proofs.Batches.{Fits}
-use Rattle.loc_calls.proofs.Appending.{appended-1, appended-2, appended-3, appended-4}
+use Rattle.loc_calls.proofs.Appending.{wholeEnds, AllBelow, appended-1, appended-2, appended-3, appended-4}
+use Rattle.loc_calls.proofs.Bounds.{good-below}
 use Rattle.loc_history.specs.Book.{Rec, recOf, checkpointCount, rowCount, longestPart, appendTorn, truncateTorn}
 use Rattle.loc_history.proofs.BookLaws.{map-take, row-count, rows-part, checkpoints-part, LongestPart, longest-part}
 
@@ -122,27 +123,33 @@ module _ (k : Kind) (a : Areas) (L : List Rec) (t : Steady k a L) (es : List Ent
   fits : Fits a (staged k (length (t .E)) es)
   fits = rw (count-is k a (t .E) _ _ (t .full)) at f
 
+  valid-new : AllValid k (t .E ++ es)
+  valid-new = valid-append k (t .E) es (t .full .valid) v
+
+  below : AllBelow (wholeEnds k (t .E ++ es))
+  below = good-below k (t .E ++ es) valid-new g
+
   is-new : N ≡ map recOf (t .E ++ es)
   is-new = ap (λ (l : List Rec). l ++ map recOf es) (t .is) ∙ sym (map-append recOf (t .E) es)
 
   rows-new : rowCount k N ≡ length (rowsOf k (t .E ++ es))
-  rows-new = ap (rowCount k) is-new ∙ row-count k 0 (t .E ++ es) (valid-append k (t .E) es (t .full .valid) v)
+  rows-new = ap (rowCount k) is-new ∙ row-count k 0 (t .E ++ es) valid-new
 
   pub add-done : Steady k (run 4 (appendPlaces a (staged k (count a) es)) a) N
-  add-done = rw (count-is k a (t .E) _ _ (t .full)) (record { E = t .E ++ es; full = appended-4 k a (t .E) es (t .full) v fits; is = is-new; good = g })
+  add-done = rw (count-is k a (t .E) _ _ (t .full)) (record { E = t .E ++ es; full = appended-4 k a (t .E) es (t .full) v fits below; is = is-new; good = g })
 
   pub add-torn : (s : ℕ) → s < 4 → Pending k (run s (appendPlaces a (staged k (count a) es)) a) (appendTorn k s L N)
   unfolding appendTorn
   add-torn zero h = unfold run in steady-pending k a L t
   add-torn (suc zero) h =
-      rw (count-is k a (t .E) _ _ (t .full)) (steady-pending k _ L (record { E = t .E; full = appended-1 k a (t .E) es (t .full) v fits; is = t .is; good = t .good }))
+      rw (count-is k a (t .E) _ _ (t .full)) (steady-pending k _ L (record { E = t .E; full = appended-1 k a (t .E) es (t .full) v fits below; is = t .is; good = t .good }))
   add-torn (suc (suc zero)) h =
       rw (count-is k a (t .E) _ _ (t .full))
-      (pending-part k _ (t .E ++ es) _ _ (appended-2 k a (t .E) es (t .full) v fits) g
+      (pending-part k _ (t .E ++ es) _ _ (appended-2 k a (t .E) es (t .full) v fits below) g
       N (rowCount k L) (checkpointCount L) is-new (rows-held k a L t) (checkpoints-held k a L t))
   add-torn (suc (suc (suc zero))) h =
       rw (count-is k a (t .E) _ _ (t .full))
-      (pending-part k _ (t .E ++ es) _ _ (appended-3 k a (t .E) es (t .full) v fits) g
+      (pending-part k _ (t .E ++ es) _ _ (appended-3 k a (t .E) es (t .full) v fits below) g
       N (rowCount k N) (checkpointCount L) is-new rows-new (checkpoints-held k a L t))
   add-torn (suc (suc (suc (suc s)))) h = absurd (too h)
     where

@@ -18,7 +18,9 @@ use Rattle.loc_calls.specs.Calls.{unlessRefused, isOpening, refusal, placeCount
 use Rattle.loc_history.specs.Book.{Rec, recOf, bodyEnd, spanEnd, bookEnds, bookRefusal, bookNext, Reply, bookReply, appendTorn, truncateTorn, bookTorn}
 
 -- a call finishes, or is torn between two stores, at its place s;
--- an append may also be torn inside its byte stores: there, everything past the three old lengths may hold anything
+-- an append may also be torn inside its byte stores: there, everything past the three old lengths may hold anything.
+-- One premise stands in this type and in `run`: "stores arrive in document 01's order, each length whole". What a tear leaves
+-- is then the first s places; whoever keeps the areas has to see to it
 pub data Event : Type 0 where
   finished : Call → Event
   torn : ℕ → Call → Event
@@ -98,14 +100,15 @@ pub record Follows (k : Kind) (L : List Rec) (es : List Entry) : Type 0 where
   pub carries : CarriesOn k L es
   pub ends : EndsBelow k (L ++ map recOf es)
 
--- document 01's lists: "the span counts 32 bits wide"
-unfoldable pub Narrow : List ℕ → Type 0
-Narrow [] = Unit
-Narrow (c ∷ cs) = (c < 2 ^ 32) × Narrow cs
+-- document 01's lists: "the span counts 32 bits wide" (paired)
+unfoldable pub Narrow : Kind → List ℕ → Type 0
+Narrow Paired [] = Unit
+Narrow Paired (c ∷ cs) = (c < 2 ^ 32) × Narrow Paired cs
+Narrow Single cs = Unit
 
 unfoldable pub LawfulCall : Kind → Three ℕ → List Rec → Call → Type 0
 LawfulCall k size L opening = Unit
-LawfulCall k size L (append b) = Narrow (b .spanCounts) × (bookRefusal k size L (append b) ≡ 0 → Follows k L (entries k b))
+LawfulCall k size L (append b) = Narrow k (b .spanCounts) × (bookRefusal k size L (append b) ≡ 0 → Follows k L (entries k b))
 LawfulCall k size L (truncate w) = Unit
 LawfulCall k size L (read ids out) = Unit
 
@@ -137,9 +140,9 @@ unfoldable pub Lawful : Kind → Three ℕ → Bool → List Rec → List Event 
 Lawful k size waiting L [] = Unit
 Lawful k size waiting L (e ∷ es) = LawfulEvent k size waiting L e × Lawful k size (isTear e) (bookAfter k size L e) es
 
--- "areas of fixed size of 16 bytes or more", which a machine word counts
+-- "areas of fixed size of 16 bytes or more"
 unfoldable pub Sized : Bytes → Type 0
-Sized xs = (16 ≤ length xs) × (length xs < 2 ^ 64)
+Sized xs = 16 ≤ length xs
 
 pub record AllSized (a : Areas) : Type 0 where
   pub slots : Sized (a .slots)
@@ -154,6 +157,20 @@ unfoldable pub Demand3 : Type 0
 Demand3 =
     (k : Kind) (a : Areas) → AllSized a → (es : List Event) → Lawful k (sizes a) false [] es
     → indexReplies k ((create a) .areas) es ≡ bookReplies k (sizes a) [] es
+
+-- 1 to 6 and 17 never come
+unfoldable pub Possible : ℕ → Type 0
+Possible n = (1 ≤ n → n ≤ 6 → ⊥) × (n ≡ 17 → ⊥)
+
+unfoldable pub AllPossible : List Reply → Type 0
+AllPossible [] = Unit
+AllPossible (r ∷ rs) = Possible (r .answer .number) × AllPossible rs
+
+-- for every lawful history, every finished reply
+unfoldable pub NeverCome : Type 0
+NeverCome =
+    (k : Kind) (a : Areas) → AllSized a → (es : List Event) → Lawful k (sizes a) false [] es
+    → AllPossible (indexReplies k ((create a) .areas) es)
 
 -- the records of a list with the places where they start
 unfoldable pub placed : ℕ → ℕ → List Rec → List Entry

@@ -53,7 +53,7 @@ pub drop-storeLength : (v : ℕ) (xs : Bytes) → drop 16 (storeLength v xs) ≡
 unfolding storeLength
 drop-storeLength v xs = drop-store 16 8 (bytes 8 v) xs (omega (arith, length-bytes 8 v))
 
-pub counted-storeLength : (v : ℕ) (xs : Bytes) → 16 ≤ v → v ≤ length xs → length xs < 2 ^ 64 → counted (storeLength v xs) ≡ v
+pub counted-storeLength : (v : ℕ) (xs : Bytes) → 16 ≤ v → v ≤ length xs → v < 2 ^ 64 → counted (storeLength v xs) ≡ v
 unfolding counted storeLength numberAt
 counted-storeLength v xs g h l = rw (there, length-store 8 (bytes 8 v) xs) (omega arith)
   where

@@ -7,7 +7,7 @@ ghost use Rattle.loc_leaf.specs.Bytes.{byte};
 ghost use Rattle.loc_leaf.specs.Area.{fill};
 ghost use Rattle.loc_leaf.specs.Kind.{rowWidth, checkpointWidth, windowOf, withinWindow};
 ghost use Rattle.loc_leaf.specs.Slot.{stridesFrom, below, slot, needsRow, inline, slotAt, checkpointRule};
-ghost use Rattle.loc_leaf.specs.Rows.{rowValue, rowList, lastNumber, rowsUpToByHalves, lookupByHalves, slotValueByHalves};
+ghost use Rattle.loc_leaf.specs.Rows.{rowValue, rowList, lastNumber, rowsUpToByHalves, Looked, lookupByHalves, slotValueByHalves};
 ghost use Rattle.loc_leaf.specs.Cut.{agrees, overflows, matches, cutFor};
 use crate::Answer;
 use crate::Kind;
@@ -323,7 +323,7 @@ pub fn rows_up_to(kind: Kind, rows: &[u8], n: u64) -> usize
 
 // The row of a record, by halves.
 pub fn ovf_lookup(kind: Kind, rows: &[u8], id: u64) -> Lookup
-    ensures { λ r. ⌜ r ≡ lookupByHalves kind id (rowList kind (now (rows .entry))) ⌝ }
+    ensures { λ r. ⌜ Looked r (lookupByHalves kind id (rowList kind (now (rows .entry)))) ⌝ }
 {
     let p = rows_up_to(kind, rows, id);
     if p == 0 {
@@ -340,7 +340,7 @@ pub fn ovf_lookup(kind: Kind, rows: &[u8], id: u64) -> Lookup
 
 // The values of a record by the two bytes of its slot.
 pub fn slot_value(kind: Kind, rows: &[u8], id: u64, low: u8, high: u8) -> Lookup
-    ensures { λ r. ⌜ r ≡ slotValueByHalves kind (rowList kind (now (rows .entry))) id (low ∷ high ∷ []) ⌝ }
+    ensures { λ r. ⌜ Looked r (slotValueByHalves kind (rowList kind (now (rows .entry))) id (low ∷ high ∷ [])) ⌝ }
 {
     if needs_row(kind, low, high) {
         return ovf_lookup(kind, rows, id);

@@ -56,7 +56,7 @@ module _ (v : ℕ) (xs : Bytes) where
     where
       go : (eqb v (counted xs) ≡ true) ⊎ (eqb v (counted xs) ≡ false) → counted (fitted v xs) ≡ v
       go (inl t) = rw t (sym (eqb-true v (counted xs) t))
-      go (inr t) = rw t (counted-storeLength v xs g h l)
+      go (inr t) = rw t (counted-storeLength v xs g h (omega arith))
 
 -- slots are looked at past the length
 cut-fitted : (k : Kind) (v : ℕ) (s : Bytes) (n last : ℕ) (r : Bytes) → cutFor k (fitted v s) n last r ≡ cutFor k s n last r

@@ -16,9 +16,9 @@ use Rattle.loc_leaf.specs.declared.Value.{Value}
 use Rattle.loc_leaf.specs.declared.delta_loc.Lookup.the-variants.{Found, Missing}
 use Rattle.loc_leaf.specs.Bytes.{Bytes, byte}
 use Rattle.loc_leaf.specs.Slot.{needsRow, inline, slotAt}
-use Rattle.loc_leaf.specs.Rows.{rowList, rowValue, lookup, slotValue, lookupByHalves, ascending}
+use Rattle.loc_leaf.specs.Rows.{rowList, rowValue, lookup, slotValue, lookupByHalves, ascending, valueIn}
 use Rattle.loc_leaf.proofs.RowLaws.{lookup-by-halves}
-use Rattle.loc_calls.specs.Reading.{sumAfter, allAfter, lookupAt, has, valueIn, valueAt, stridesAfter, spansAfter}
+use Rattle.loc_calls.specs.Reading.{sumAfter, allAfter, lookupAt, has, valueAt, stridesAfter, spansAfter}
 use Rattle.loc_window.specs.declared.Sums.{Sums}
 use Rattle.loc_window.specs.Window.{placed, complete, Passed, After, sumsOf, plusValue, IsRow, slotOf, Right, Written}
 

@@ -12,9 +12,9 @@ use Rattle.loc_leaf.specs.declared.Kind.{Kind}
 use Rattle.loc_leaf.specs.declared.delta_loc.Lookup.{Lookup}
 use Rattle.loc_leaf.specs.Bytes.{Bytes, byte}
 use Rattle.loc_leaf.specs.Slot.{slotAt}
-use Rattle.loc_leaf.specs.Rows.{rowList}
+use Rattle.loc_leaf.specs.Rows.{rowList, valueIn}
 use Rattle.loc_calls.specs.Areas.{Areas}
-use Rattle.loc_calls.specs.Reading.{sumAfter, allAfter, lookupAt, has, valueIn, valueAt, stridesAfter, spansAfter}
+use Rattle.loc_calls.specs.Reading.{sumAfter, allAfter, lookupAt, has, valueAt, stridesAfter, spansAfter}
 use Rattle.loc_window.specs.Window.{placed, complete, Rising, After, sumsOf, Right, Stored, Copied}
 use Rattle.loc_leaf.proofs.RowLaws.{rows-count}
 use Rattle.loc_window.proofs.SumLaws.{slot-two, lookup-is}
