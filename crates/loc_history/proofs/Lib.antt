@@ -5,4 +5,3 @@ pub mod Calls
 pub mod History
 pub mod Numbers
 pub mod Kept
-pub mod Examples

@@ -1,0 +1,46 @@
+-- Histories that break one premise of demand 3 and meet all others: the replies of the index, and those of the book.
+-- "Ends below 2^64" has none here: a length is below 2^35, so it takes 2^29 records to break it.
+use Prim.Native.Nat.{ℕ, _+_, _^_}
+use mathlib.Core.List.{List, [], _∷_}
+use lib.ListN.{replicate}
+use Rattle.loc_calls.specs.Areas.{Areas}
+use Rattle.loc_calls.specs.Table.{Batch, batch, opening, append, truncate, read}
+use Rattle.loc_history.specs.History.{Event, finished, torn}
+use Rattle.loc_premises.specs.Replies.{from}
+
+-- ---- an area of 15 bytes: the index refuses to open it, the book knows no such refusal
+
+abbrev pub bytes15 : Areas
+bytes15 = record { slots = replicate 15 0; rows = replicate 16 0; checkpoints = replicate 16 0 }
+
+abbrev pub openedSmall : List Event
+openedSmall = finished opening ∷ []
+
+-- ---- the first batch starts at 24: the checkpoint after record 1,024 is 8 too large
+
+abbrev pub startsAt24 : List Event
+startsAt24 = finished (append (batch (from 8 24 1025) (replicate 1025 8) [] [])) ∷ finished (read (1025 ∷ []) (replicate 3 9)) ∷ []
+
+-- ---- the second batch starts 8 past the end of the first: the same
+
+abbrev pub leavesAGap : List Event
+leavesAGap =
+    finished (append (batch (16 ∷ []) (8 ∷ []) [] []))
+    ∷ finished (append (batch (from 8 32 1024) (replicate 1024 8) [] []))
+    ∷ finished (read (1025 ∷ []) (replicate 3 9))
+    ∷ []
+
+-- ---- a reading before the opening that a tear awaits: the slot of record 2 is published, its row is not
+
+abbrev pub notOpened : List Event
+notOpened = torn 2 (append (batch (16 ∷ 56 ∷ []) (40 ∷ 2048 ∷ []) (16 ∷ 40 ∷ []) (3 ∷ 1 ∷ []))) ∷ finished (read (1 ∷ []) (replicate 6 9)) ∷ []
+
+-- ---- a truncation torn after its last place: it has happened, and the book keeps the longest part without rows
+
+abbrev pub tornAfterEnd : List Event
+tornAfterEnd = finished (append (batch (16 ∷ 24 ∷ []) (8 ∷ 8 ∷ []) (16 ∷ 24 ∷ []) (1 ∷ 1 ∷ []))) ∷ torn 3 (truncate 1) ∷ finished opening ∷ []
+
+-- ---- a span count of 2^32 + 1: the row has four bytes for it
+
+abbrev pub wideSpans : List Event
+wideSpans = finished (append (batch (16 ∷ []) (8 ∷ []) (16 ∷ []) ((2 ^ 32 + 1) ∷ []))) ∷ finished (read (1 ∷ []) (replicate 6 9)) ∷ []
