@@ -22,7 +22,6 @@ use Rattle.loc_calls.specs.Calls.{unlessRefused, tooSmall, unread, isOpening, r
 use Rattle.loc_history.specs.Book.{recOf, records, lenSum, spanSum, bodyEnd, spanEnd, checkpointCount, takesRow, rowCount, bookEnds, bookRefusal, bookNext, recordWords, bookWords, Reply, bookReply, longest, longestPart, appendTorn, truncateTorn, bookTorn}
 use Rattle.loc_history.specs.History.{Event, finished, torn, tornBytes, indexAfter, indexGives, indexReplies, bookAfter, bookGives, bookReplies, FirstAt, StartsAt16, CarriesOn, EndsBelow, Narrow, LawfulCall, Awaited, BeforeEnd, LawfulEvent, isTear, Lawful, Sized, AllSized, Demand3}
 use Rattle.loc_history.proofs.History.{demand3}
-
 use Rattle.loc_premises.specs.Replies.{gives, refuses, reads, small, wide, Both, Differ}
 use Rattle.loc_premises.specs.Lawful.{story, storyReplies, singleStory, singleReplies, forgedStory, forgedReplies, longStory, longReplies}
 use Rattle.loc_premises.specs.Broken.{bytes15, openedSmall, startsAt24, leavesAGap, notOpened, tornAfterEnd, wideSpans}
