@@ -4,6 +4,7 @@ pub mod State
 pub mod Opening
 pub mod Settled
 pub mod Outcomes
+pub mod Refused
 pub mod Chains
 pub mod Batches
 pub mod Appending

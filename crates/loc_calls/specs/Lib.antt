@@ -5,3 +5,4 @@ pub mod Reading
 pub mod Audit
 pub mod Calls
 pub mod Promises
+pub mod Guarantees
