@@ -5,6 +5,7 @@ pub mod Opening
 pub mod Settled
 pub mod Outcomes
 pub mod Refused
+pub mod FirstBytes
 pub mod Chains
 pub mod Batches
 pub mod Appending

@@ -1,10 +1,11 @@
--- What holds of every call on any areas: which numbers it gives, and what a refusal leaves (document 01, "What each call gives").
--- The claims are proved in proofs/Refused.
+-- What holds of every call on any areas: which numbers it gives, what a refusal leaves, and what bytes 0 to 7 are to it
+-- (document 01, "What each call gives"; "file.rs, length only"). Each claim is proved in proofs/Refused or proofs/FirstBytes.
 use Prim.Native.Nat.{ℕ, _≤_}
 use mathlib.Core.Path.{_≡_}
 use mathlib.Core.List.{List, []}
+use lib.ListN.{take, drop}
 use Rattle.loc_leaf.specs.declared.Kind.{Kind}
-use Rattle.loc_calls.specs.Areas.{Areas}
+use Rattle.loc_calls.specs.Areas.{each, Areas, sizes}
 use Rattle.loc_calls.specs.Table.{Call}
 use Rattle.loc_calls.specs.Calls.{Outcome, lent, call, create, audit}
 
@@ -48,3 +49,23 @@ pub record LeftAsItWas (o : Outcome) (a : Areas) (out : List ℕ) : Type 0 where
 
 unfoldable pub RefusalsLeaveAll : Type 0
 RefusalsLeaveAll = (c : AnyCall) (a : Areas) → (numberOf c a ≡ 0 → ⊥) → LeftAsItWas (outcome c a) a (lentTo c)
+
+-- ---- bytes 0 to 7
+
+-- areas that differ there or nowhere
+pub record SameFrom8 (a b : Areas) : Type 0 where
+  pub size : sizes a ≡ sizes b
+  pub rest : each (drop 8) a ≡ each (drop 8) b
+
+pub record SameOutcome (o p : Outcome) : Type 0 where
+  pub answer : o .answer ≡ p .answer
+  pub buffer : o .buffer ≡ p .buffer
+  pub areas : SameFrom8 (o .areas) (p .areas)
+
+-- "Bytes 0 to 7 are neither read": areas that differ only there get the same answers and the same stores,
+unfoldable pub FirstBytesUnread : Type 0
+FirstBytesUnread = (c : AnyCall) (a b : Areas) → SameFrom8 a b → SameOutcome (outcome c a) (outcome c b)
+
+-- "nor written"
+unfoldable pub FirstBytesUnwritten : Type 0
+FirstBytesUnwritten = (c : AnyCall) (a : Areas) → each (take 8) ((outcome c a) .areas) ≡ each (take 8) a

@@ -5,7 +5,7 @@ use mathlib.Core.Path.{_≡_, refl, sym, ap, _∙_}
 use mathlib.Core.List.{List, [], _∷_, _++_, append-assoc, flatten}
 use native.Mathlib.Nat.{mul-zero, mul-suc, zero-add, suc-add, le-of-suc-le-suc, not-suc-le-zero, add-comm, zero-min, min-zero, suc-min-suc}
 use native.Mathlib.Omega.{arith}
-use lib.ListN.{length, take, drop, getD, length-append}
+use lib.ListN.{length, take, drop, getD, length-append, length-take}
 use lib.Seq.{take-at, drop-at, take-take, drop-drop, take-nil}
 use Rattle.loc_leaf.specs.Bytes.{Bytes, bytes, numberAt, store}
 use Rattle.loc_leaf.specs.Area.{counted, storeLength, storePast, pieces}
@@ -28,6 +28,15 @@ take-twice zero j l = rw (zero-min j) refl
 take-twice (suc i) zero l = rw (min-zero (suc i)) refl
 take-twice (suc i) (suc j) [] = rw (suc-min-suc i j) refl
 take-twice {A} (suc i) (suc j) (x ∷ l) = rw (suc-min-suc i j) (ap {B = List A} (λ r. x ∷ r) (take-twice i j l))
+
+-- as many as there are
+pub take-min : {A : Type 0} (n : ℕ) (l : List A) → take (min n (length l)) l ≡ take n l
+take-min n l = rw (← length-take n l) (take-own n l)
+
+pub drop-min : {A : Type 0} (n : ℕ) (l : List A) → drop (min n (length l)) l ≡ drop n l
+drop-min zero l = rw (zero-min (length l)) refl
+drop-min (suc n) [] = rw (min-zero (suc n)) refl
+drop-min (suc n) (x ∷ l) = rw (suc-min-suc n (length l)) (drop-min n l)
 
 -- ---- the counted length depends on the first 16 bytes and the size
 

@@ -3,10 +3,10 @@
 use Prim.Native.Nat.{ℕ, zero, suc, _+_, _/_, _^_, _≤_, _<_}
 use mathlib.Core.Path.{_≡_, refl, ap, _∙_}
 use mathlib.Core.List.{[], _∷_, _++_, append-assoc}
-use native.Mathlib.Nat.{pow-suc, mod-add-div, div-lt-iff-lt-mul, zero-lt-suc}
+use native.Mathlib.Nat.{pow-suc, mod-add-div, div-lt-iff-lt-mul, zero-lt-suc, add-suc}
 use native.Mathlib.Omega.{arith}
-use lib.ListN.{length, take, drop}
-use lib.Seq.{take-at, drop-at, length-take-le, take-set-le, drop-set-lt, length-sets, sets-eq}
+use lib.ListN.{length, take, drop, set}
+use lib.Seq.{take-at, drop-at, length-take-le, take-set-le, drop-set-lt, drop-set-add, length-sets, sets-eq}
 use Rattle.loc_leaf.specs.Bytes.{Bytes, number, bytes, numberAt, store}
 
 -- ---- numbers
@@ -47,6 +47,13 @@ pub drop-store : (n at : ℕ) (bs xs : Bytes) → at + length bs ≤ n → drop 
 unfolding store
 drop-store n at [] xs h = refl
 drop-store n at (b ∷ bs) xs h = drop-store n (suc at) bs _ (omega arith) ∙ drop-set-lt n xs at b (omega arith)
+
+-- a store past n is one in what follows n
+pub drop-store-add : (n at : ℕ) (bs xs : Bytes) → drop n (store (n + at) bs xs) ≡ store at bs (drop n xs)
+unfolding store
+drop-store-add n at [] xs = refl
+drop-store-add n at (b ∷ bs) xs =
+    rw (add-suc n at) at (drop-store-add n (suc at) bs (set xs (n + at) b)) ∙ ap (λ (l : Bytes). store (suc at) bs l) (drop-set-add n xs at b)
 
 pub store-is : (at : ℕ) (bs xs : Bytes) → at + length bs ≤ length xs → store at bs xs ≡ take at xs ++ (bs ++ drop (at + length bs) xs)
 unfolding store
