@@ -1,7 +1,7 @@
 -- Every number that a call gives is in the table, and a refusal leaves everything as it was.
 -- A number that is the first of several is in the table where each of them is.
 use Prim.Native.Nat.{ℕ, zero, suc, _*_, _/_, _%_, _^_, _≤_}
-use mathlib.Core.Path.{_≡_, refl}
+use mathlib.Core.Path.{_≡_, refl, sym, ap, _∙_}
 use mathlib.Core.Bool.{Bool, true, false, cond, not, _||_}
 use mathlib.Core.List.{List, [], _∷_}
 use native.Mathlib.Omega.{arith}
@@ -9,6 +9,7 @@ use lib.Dec.{leb, ltb, eqb}
 use lib.ListN.{length}
 use borrow.Author.Tests.{leb-true}
 use Rattle.loc_leaf.specs.declared.Kind.{Kind}
+use Rattle.loc_leaf.specs.declared.Answer.{Answer}
 use Rattle.loc_leaf.specs.Answers.{refuse, _orElse_, answer}
 use Rattle.loc_leaf.specs.Kind.{rowWidth, checkpointWidth}
 use Rattle.loc_leaf.specs.Slot.{stridesRefusal}
@@ -16,8 +17,10 @@ use Rattle.loc_leaf.specs.Rows.{rowList, ascending}
 use Rattle.loc_calls.specs.Areas.{Three, Areas, sizes, count}
 use Rattle.loc_calls.specs.Table.{Call, opening, append, truncate, read, Entry, bodyAfter, spanAfter, entries, wordWidth, uneven, spanless, breaks, entryRefusal, entriesRefusal, endPast, batchRefusal, table}
 use Rattle.loc_calls.specs.Stores.{ragged, openRefusal, settled, newEnds}
-use Rattle.loc_calls.specs.Calls.{unlessRefused, tooSmall, unread, isOpening, refusal, areasAfter, call, create, audit}
+use Rattle.loc_calls.specs.Calls.{unlessRefused, tooSmall, unread, isOpening, refusal, call, create, audit}
+use Rattle.loc_calls.specs.Promises.{Stored}
 use Rattle.loc_calls.specs.Guarantees.{indexCall, creation, auditing, outcome, lentTo, numberOf, largest, NumbersOfTable, RefusalsLeaveAll}
+use Rattle.loc_calls.proofs.Outcomes.{refused}
 
 -- ---- numbers
 
@@ -103,11 +106,10 @@ kept zero v new old h = absurd (h refl)
 kept (suc n) v new old h = refl
 
 pub refusals-leave-all : RefusalsLeaveAll
-unfolding RefusalsLeaveAll numberOf outcome lentTo call areasAfter create audit
-refusals-leave-all (indexCall k s c) a h = record {
-  value = value-0 (refusal k c a) _ h;
-  buffer = kept (refusal k c a) _ _ _ h;
-  areas = kept (refusal k c a) _ _ _ h;
-}
+unfolding RefusalsLeaveAll numberOf outcome lentTo call create audit
+refusals-leave-all (indexCall k s c) a h = record { value = ap (λ (r : Answer). r .value) (sym (left .0)); buffer = kept (refusal k c a) _ _ _ h; areas = sym (left .1) }
+  where
+    left : Stored (call k s c a) (record { number = refusal k c a; value = 0 }) a
+    left = refused k s c a (refusal k c a) refl (λ e. h (number-is (refusal k c a) _ ∙ e))
 refusals-leave-all creation a h = record { value = value-0 (refuse (tooSmall a) 1) 0 h; buffer = refl; areas = kept (refuse (tooSmall a) 1) 0 _ a h }
 refusals-leave-all (auditing k) a h = record { value = value-0 (refuse (tooSmall a) 1 orElse refuse (not (settled k a)) 6) _ h; buffer = refl; areas = refl }

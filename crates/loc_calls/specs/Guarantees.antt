@@ -42,17 +42,18 @@ unfoldable pub NumbersOfTable : Type 0
 NumbersOfTable = (c : AnyCall) (a : Areas) → numberOf c a ≤ largest
 
 -- the columns "Returned": "number, value 0"; and "Left as it was": "everything"
-pub record LeftAsItWas (o : Outcome) (a : Areas) (out : List ℕ) : Type 0 where
+pub record Refusal (o : Outcome) (a : Areas) (out : List ℕ) : Type 0 where
   pub value : (o .answer) .value ≡ 0
   pub buffer : o .buffer ≡ out
   pub areas : o .areas ≡ a
 
+-- what every refusal gives of the areas and the buffer that it was lent
 unfoldable pub RefusalsLeaveAll : Type 0
-RefusalsLeaveAll = (c : AnyCall) (a : Areas) → (numberOf c a ≡ 0 → ⊥) → LeftAsItWas (outcome c a) a (lentTo c)
+RefusalsLeaveAll = (c : AnyCall) (a : Areas) → (numberOf c a ≡ 0 → ⊥) → Refusal (outcome c a) a (lentTo c)
 
 -- ---- bytes 0 to 7
 
--- areas that differ there or nowhere
+-- areas as long, that differ there or nowhere
 pub record SameFrom8 (a b : Areas) : Type 0 where
   pub size : sizes a ≡ sizes b
   pub rest : each (drop 8) a ≡ each (drop 8) b
@@ -66,6 +67,6 @@ pub record SameOutcome (o p : Outcome) : Type 0 where
 unfoldable pub FirstBytesUnread : Type 0
 FirstBytesUnread = (c : AnyCall) (a b : Areas) → SameFrom8 a b → SameOutcome (outcome c a) (outcome c b)
 
--- "nor written"
+-- "nor written": they come back as they were
 unfoldable pub FirstBytesUnwritten : Type 0
 FirstBytesUnwritten = (c : AnyCall) (a : Areas) → each (take 8) ((outcome c a) .areas) ≡ each (take 8) a

@@ -29,7 +29,7 @@ take-twice (suc i) zero l = rw (min-zero (suc i)) refl
 take-twice (suc i) (suc j) [] = rw (suc-min-suc i j) refl
 take-twice {A} (suc i) (suc j) (x ∷ l) = rw (suc-min-suc i j) (ap {B = List A} (λ r. x ∷ r) (take-twice i j l))
 
--- as many as there are
+-- a number past the end counts as the length
 pub take-min : {A : Type 0} (n : ℕ) (l : List A) → take (min n (length l)) l ≡ take n l
 take-min n l = rw (← length-take n l) (take-own n l)
 
