@@ -1,8 +1,8 @@
 -- Every number that a call gives is in the table, and a refusal leaves everything as it was.
--- A number that is the first of several is in the table where each of them is.
+-- What holds of each number of the table holds of the one that a call gives.
 use Prim.Native.Nat.{ℕ, zero, suc, _*_, _/_, _%_, _^_, _≤_}
 use mathlib.Core.Path.{_≡_, refl, sym, ap, _∙_}
-use mathlib.Core.Bool.{Bool, true, false, cond, not, _||_}
+use mathlib.Core.Bool.{Bool, true, false, cond, not, _&&_, _||_}
 use mathlib.Core.List.{List, [], _∷_}
 use native.Mathlib.Omega.{arith}
 use lib.Dec.{leb, ltb, eqb}
@@ -14,6 +14,8 @@ use Rattle.loc_leaf.specs.Answers.{refuse, _orElse_, answer}
 use Rattle.loc_leaf.specs.Kind.{rowWidth, checkpointWidth}
 use Rattle.loc_leaf.specs.Slot.{stridesRefusal}
 use Rattle.loc_leaf.specs.Rows.{rowList, ascending}
+use Rattle.loc_leaf.proofs.Booleans.{both-left, both-right}
+use Rattle.loc_leaf.proofs.Refusals.{orElse-holds, refuse-holds}
 use Rattle.loc_calls.specs.Areas.{Three, Areas, sizes, count}
 use Rattle.loc_calls.specs.Table.{Call, opening, append, truncate, read, Entry, bodyAfter, spanAfter, entries, wordWidth, uneven, spanless, breaks, entryRefusal, entriesRefusal, endPast, batchRefusal, table}
 use Rattle.loc_calls.specs.Stores.{ragged, openRefusal, settled, newEnds}
@@ -22,67 +24,77 @@ use Rattle.loc_calls.specs.Promises.{Stored}
 use Rattle.loc_calls.specs.Guarantees.{indexCall, creation, auditing, outcome, lentTo, numberOf, largest, NumbersOfTable, RefusalsLeaveAll}
 use Rattle.loc_calls.proofs.Outcomes.{refused}
 
--- ---- numbers
+-- ---- the table's numbers
 
--- of two numbers, the first that is not 0
-first : {x y : ℕ} → x ≤ largest → y ≤ largest → (x orElse y) ≤ largest
-first {x = zero} h g = g
-first {x = suc x} h g = h
+-- what holds of 0 and of 7 to 16 holds of the number that the table gives
+module _ (P : ℕ → Type 0) (none : P 0) (each : (n : ℕ) → 7 ≤ n → n ≤ 16 → P n) where
+  tested : (n : ℕ) (b : Bool) → (leb 7 n && leb n 16) ≡ true → P (refuse b n)
+  tested n b h = refuse-holds P n b none (each n (leb-true 7 n (both-left (leb 7 n) (leb n 16) h)) (leb-true n 16 (both-right (leb 7 n) (leb n 16) h)))
 
--- a test that gives the number n
-test : (n : ℕ) (b : Bool) → leb n largest ≡ true → refuse b n ≤ largest
-test n true h = leb-true n largest h
-test n false h = omega arith
+  breaks-holds : (e : Entry) (es : List Entry) → P (breaks e es)
+  unfolding breaks
+  breaks-holds e [] = none
+  breaks-holds e (d ∷ ds) = orElse-holds P (tested 11 (not (eqb (d .start) (bodyAfter e))) refl) (tested 12 (not (eqb (d .spanStart) (spanAfter e))) refl)
 
-breaks-in : (e : Entry) (es : List Entry) → breaks e es ≤ largest
-unfolding breaks
-breaks-in e [] = omega arith
-breaks-in e (d ∷ ds) = first (test 11 (not (eqb (d .start) (bodyAfter e))) refl) (test 12 (not (eqb (d .spanStart) (spanAfter e))) refl)
+  strides-holds : (len : ℕ) → P (stridesRefusal len)
+  unfolding stridesRefusal
+  strides-holds len = orElse-holds P (tested 9 (eqb len 0 || not (eqb (len % 8) 0)) refl) (tested 10 (leb (2 ^ 32) (len / 8)) refl)
 
-strides-in : (len : ℕ) → stridesRefusal len ≤ largest
-unfolding stridesRefusal
-strides-in len = first (test 9 (eqb len 0 || not (eqb (len % 8) 0)) refl) (test 10 (leb (2 ^ 32) (len / 8)) refl)
+  entries-holds : (k : Kind) (es : List Entry) → P (entriesRefusal k es)
+  unfolding entriesRefusal entryRefusal
+  entries-holds k [] = none
+  entries-holds k (e ∷ es) =
+      orElse-holds P (orElse-holds P (tested 8 (spanless k e) refl) (orElse-holds P (strides-holds (e .len)) (breaks-holds e es))) (entries-holds k es)
 
-entries-in : (k : Kind) (es : List Entry) → entriesRefusal k es ≤ largest
-unfolding entriesRefusal entryRefusal
-entries-in k [] = omega arith
-entries-in k (e ∷ es) = first (first (test 8 (spanless k e) refl) (first (strides-in (e .len)) (breaks-in e es))) (entries-in k es)
+  batch-holds : (k : Kind) (ends size : Three ℕ) (es : List Entry) → P (batchRefusal k ends size es)
+  unfolding batchRefusal
+  batch-holds k ends size [] = none
+  batch-holds k ends size (e ∷ es) = orElse-holds P (entries-holds k (e ∷ es)) (tested 13 (endPast ends size) refl)
 
-batch-in : (k : Kind) (ends size : Three ℕ) (es : List Entry) → batchRefusal k ends size es ≤ largest
-unfolding batchRefusal
-batch-in k ends size [] = omega arith
-batch-in k ends size (e ∷ es) = first (entries-in k (e ∷ es)) (test 13 (endPast ends size) refl)
+  pub table-holds : (k : Kind) (n : ℕ) (ends : List Entry → Three ℕ) (size : Three ℕ) (c : Call) → P (table k n ends size c)
+  unfolding table
+  table-holds k n ends size opening = none
+  table-holds k n ends size (append b) = orElse-holds P (tested 7 (uneven k b) refl) (batch-holds k (ends (entries k b)) size (entries k b))
+  table-holds k n ends size (truncate w) = tested 14 (ltb n w) refl
+  table-holds k n ends size (read ids out) = orElse-holds P (tested 15 (ltb 1024 (length ids)) refl) (tested 16 (ltb (length out) (wordWidth k * length ids)) refl)
 
-table-in : (k : Kind) (n : ℕ) (ends : List Entry → Three ℕ) (size : Three ℕ) (c : Call) → table k n ends size c ≤ largest
-unfolding table
-table-in k n ends size opening = omega arith
-table-in k n ends size (append b) = first (test 7 (uneven k b) refl) (batch-in k (ends (entries k b)) size (entries k b))
-table-in k n ends size (truncate w) = test 14 (ltb n w) refl
-table-in k n ends size (read ids out) = first (test 15 (ltb 1024 (length ids)) refl) (test 16 (ltb (length out) (wordWidth k * length ids)) refl)
+-- ---- every call's number
 
-open-in : (k : Kind) (a : Areas) → openRefusal k a ≤ largest
+abbrev InTable : ℕ → Type 0
+InTable n = n ≤ largest
+
+test : (n : ℕ) (b : Bool) → leb n largest ≡ true → InTable (refuse b n)
+test n b h = refuse-holds InTable n b (omega arith) (leb-true n largest h)
+
+first : {x y : ℕ} → InTable x → InTable y → InTable (x orElse y)
+first p q = orElse-holds InTable p q
+
+table-in : (k : Kind) (n : ℕ) (ends : List Entry → Three ℕ) (size : Three ℕ) (c : Call) → InTable (table k n ends size c)
+table-in = table-holds InTable (omega arith) (λ n g l. omega arith)
+
+open-in : (k : Kind) (a : Areas) → InTable (openRefusal k a)
 unfolding openRefusal
 open-in k a =
     first (test 2 (ragged 2 (a .slots)) refl)
     (first (test 3 (ragged (checkpointWidth k) (a .checkpoints)) refl)
     (first (test 4 (ragged (rowWidth k) (a .rows)) refl) (test 5 (not (ascending 0 (rowList k (a .rows)))) refl)))
 
-small-in : (a : Areas) → refuse (tooSmall a) 1 ≤ largest
+small-in : (a : Areas) → InTable (refuse (tooSmall a) 1)
 small-in a = test 1 (tooSmall a) refl
 
-unsettled-in : (k : Kind) (a : Areas) → refuse (not (settled k a)) 6 ≤ largest
+unsettled-in : (k : Kind) (a : Areas) → InTable (refuse (not (settled k a)) 6)
 unsettled-in k a = test 6 (not (settled k a)) refl
 
-refusal-in : (k : Kind) (c : Call) (a : Areas) → refusal k c a ≤ largest
+refusal-in : (k : Kind) (c : Call) (a : Areas) → InTable (refusal k c a)
 unfolding refusal
 refusal-in k c a = first (small-in a) (go (isOpening c))
   where
-    go : (b : Bool) → cond b (openRefusal k a) (refuse (not (settled k a)) 6 orElse table k (count a) (newEnds k a) (sizes a) c orElse refuse (unread k a c) 17) ≤ largest
+    go : (b : Bool) → InTable (cond b (openRefusal k a) (refuse (not (settled k a)) 6 orElse table k (count a) (newEnds k a) (sizes a) c orElse refuse (unread k a c) 17))
     go true = open-in k a
     go false = first (unsettled-in k a) (first (table-in k (count a) (newEnds k a) (sizes a) c) (test 17 (unread k a c) refl))
 
 -- the number of an answer
-number-is : (n v : ℕ) → (answer n v) .number ≡ n
+pub number-is : (n v : ℕ) → (answer n v) .number ≡ n
 unfolding answer
 number-is zero v = refl
 number-is (suc n) v = refl

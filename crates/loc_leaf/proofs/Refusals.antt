@@ -29,3 +29,15 @@ orElse-assoc (suc x) y z = refl
 pub refuse-zero : (b : Bool) (n : ℕ) → refuse b (suc n) ≡ 0 → b ≡ false
 refuse-zero true n h = absurd (suc-ne-zero n h)
 refuse-zero false n h = refl
+
+-- ---- a fact of every number that may be given
+
+-- of two numbers, the first that is not 0
+pub orElse-holds : (P : ℕ → Type 0) {n m : ℕ} → P n → P m → P (n orElse m)
+orElse-holds P {n = zero} p q = q
+orElse-holds P {n = suc n} p q = p
+
+-- a test that gives the number n
+pub refuse-holds : (P : ℕ → Type 0) (n : ℕ) (b : Bool) → P 0 → P n → P (refuse b n)
+refuse-holds P n true z p = p
+refuse-holds P n false z p = z
