@@ -1,11 +1,58 @@
-/* The exported calls (crate loc_exports, built by `rt staticlib loc_exports`).
- * A slice is a pointer and a length in elements; areas must not overlap. Each call returns its number, 0 where it accepts,
- * and stores its value, 0 on a refusal. create_loc is the paired index, delta_loc the single one. */
+/* The exported calls (crate loc_exports, built by `rt staticlib loc_exports`), for C and C++.
+ * create_loc is the paired index (body and spans), delta_loc the single one (body alone).
+ *
+ * A slice is a pointer and a length in elements; NULL is allowed with length 0. What one call is lent (areas, lists, `answers`,
+ * `value`) must not overlap, and `value` must not be NULL. Each call returns a gurwynell_refusal and stores its value, 0 on a
+ * refusal; a refusal stores nothing else. */
 #ifndef GURWYNELL_H
 #define GURWYNELL_H
 
 #include <stddef.h>
 #include <stdint.h>
+
+#ifdef __cplusplus
+extern "C" {
+#endif
+
+/* What a call returns. Any call gives 1; create no other; open 2 to 5; the others 6, and append 7 to 13, truncate 14, read 15 to 17. */
+enum gurwynell_refusal {
+    GURWYNELL_ACCEPTED = 0,
+    GURWYNELL_AREA_TOO_SMALL = 1,          /* an area under 16 bytes */
+    GURWYNELL_SLOTS_ODD = 2,               /* slot data odd */
+    GURWYNELL_CHECKPOINTS_NOT_WHOLE = 3,   /* checkpoint data not whole */
+    GURWYNELL_ROWS_NOT_WHOLE = 4,          /* row data not whole */
+    GURWYNELL_ROWS_NOT_ASCENDING = 5,      /* a row numbered 0, or not above the row before */
+    GURWYNELL_NOT_OPENED = 6,              /* opening would refuse or change a stored length */
+    GURWYNELL_LISTS_DIFFER = 7,            /* batch lists differ in length */
+    GURWYNELL_NO_SPANS = 8,                /* span count 0 (paired) */
+    GURWYNELL_LENGTH_NOT_PADDED = 9,       /* length 0 or no multiple of 8 */
+    GURWYNELL_TOO_MANY_STRIDES = 10,       /* more than 2^32 - 1 strides */
+    GURWYNELL_BODY_NOT_CHAINED = 11,       /* next body start is not start + length, saturated */
+    GURWYNELL_SPANS_NOT_CHAINED = 12,      /* the same for spans (paired) */
+    GURWYNELL_PAST_AREA = 13,              /* a new end lies past its area */
+    GURWYNELL_PAST_COUNT = 14,             /* truncation past the count */
+    GURWYNELL_TOO_MANY_NUMBERS = 15,       /* more than 1,024 numbers */
+    GURWYNELL_ANSWERS_TOO_SHORT = 16,      /* answer buffer too short */
+    GURWYNELL_ROW_MISSING = 17             /* a slot that is looked at needs a row and has none */
+};
+
+/* Where the words of an answer stand, and how many there are for each wanted number. All are 0 where nothing is found. */
+enum gurwynell_paired_word {
+    GURWYNELL_PAIRED_FOUND = 0,
+    GURWYNELL_PAIRED_BODY_START = 1,
+    GURWYNELL_PAIRED_BODY_LEN = 2,
+    GURWYNELL_PAIRED_SPAN_START = 3,
+    GURWYNELL_PAIRED_SPAN_LEN = 4,
+    GURWYNELL_PAIRED_SPAN_COUNT = 5,
+    GURWYNELL_PAIRED_WORDS = 6
+};
+
+enum gurwynell_single_word {
+    GURWYNELL_SINGLE_FOUND = 0,
+    GURWYNELL_SINGLE_START = 1,
+    GURWYNELL_SINGLE_LEN = 2,
+    GURWYNELL_SINGLE_WORDS = 3
+};
 
 #define GURWYNELL_AREAS                                                                                                  \
     uint8_t *slots, size_t slots_len, uint8_t *rows, size_t rows_len, uint8_t *checkpoints, size_t checkpoints_len
@@ -18,6 +65,8 @@
 #define GURWYNELL_SINGLE_LISTS const uint64_t *starts, size_t starts_len, const uint64_t *lens, size_t lens_len
 #define GURWYNELL_READING const uint64_t *wanted, size_t wanted_len, uint64_t *answers, size_t answers_len
 
+/* A `*_run` makes the stores of the first `places` places and no others, as a power cut would leave them: for tests, not to
+ * publish in steps. */
 uint64_t create_loc_create(GURWYNELL_AREAS, uint64_t *value);
 uint64_t create_loc_open(GURWYNELL_AREAS, uint64_t *value);
 uint64_t create_loc_open_run(GURWYNELL_AREAS, uint64_t places, uint64_t *value);
@@ -37,5 +86,9 @@ uint64_t delta_loc_truncate(GURWYNELL_AREAS, uint64_t count, uint64_t *value);
 uint64_t delta_loc_truncate_run(GURWYNELL_AREAS, uint64_t count, uint64_t places, uint64_t *value);
 uint64_t delta_loc_read(GURWYNELL_LENT_AREAS, GURWYNELL_READING, uint64_t *value);
 uint64_t delta_loc_audit(GURWYNELL_LENT_AREAS, uint64_t *value);
+
+#ifdef __cplusplus
+}
+#endif
 
 #endif

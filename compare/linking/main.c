@@ -1,0 +1,42 @@
+/* README's example, compiled as C and as C++ against the archive: two records are created, appended, opened, read and audited.
+ * Prints what differs from document 01's listing; lists of length 0 are NULL. */
+#include "gurwynell.h"
+#include <stdio.h>
+
+static int failures = 0;
+
+static void expect(const char *what, uint64_t got, uint64_t wanted)
+{
+    if (got != wanted) {
+        printf("linking: %s is %llu, not %llu\n", what, (unsigned long long)got, (unsigned long long)wanted);
+        failures++;
+    }
+}
+
+int main(void)
+{
+    uint8_t slots[64] = {0}, rows[64] = {0}, checkpoints[64] = {0};
+    const uint64_t starts[] = {16, 56}, lens[] = {40, 2048}, span_starts[] = {16, 40}, wanted[] = {2};
+    const uint32_t spans[] = {3, 1};
+    uint64_t answers[GURWYNELL_PAIRED_WORDS] = {0}, value = 9;
+
+    expect("create", create_loc_create(slots, 64, rows, 64, checkpoints, 64, &value), GURWYNELL_ACCEPTED);
+    expect("append", create_loc_append(slots, 64, rows, 64, checkpoints, 64, starts, 2, lens, 2, span_starts, 2, spans, 2, &value), GURWYNELL_ACCEPTED);
+    expect("open", create_loc_open(slots, 64, rows, 64, checkpoints, 64, &value), GURWYNELL_ACCEPTED);
+    expect("the count", value, 2);
+    expect("read", create_loc_read(slots, 64, rows, 64, checkpoints, 64, wanted, 1, answers, GURWYNELL_PAIRED_WORDS, &value), GURWYNELL_ACCEPTED);
+    expect("found", answers[GURWYNELL_PAIRED_FOUND], 1);
+    expect("body start", answers[GURWYNELL_PAIRED_BODY_START], 56);
+    expect("body length", answers[GURWYNELL_PAIRED_BODY_LEN], 2048);
+    expect("span start", answers[GURWYNELL_PAIRED_SPAN_START], 40);
+    expect("span length", answers[GURWYNELL_PAIRED_SPAN_LEN], 8);
+    expect("span count", answers[GURWYNELL_PAIRED_SPAN_COUNT], 1);
+    expect("audit", create_loc_audit(slots, 64, rows, 64, checkpoints, 64, &value), GURWYNELL_ACCEPTED);
+    expect("soundness", value, 1);
+
+    expect("an empty batch", create_loc_append(slots, 64, rows, 64, checkpoints, 64, NULL, 0, NULL, 0, NULL, 0, NULL, 0, &value), GURWYNELL_ACCEPTED);
+    expect("an empty reading", delta_loc_read(NULL, 0, NULL, 0, NULL, 0, NULL, 0, NULL, 0, &value), GURWYNELL_AREA_TOO_SMALL);
+    expect("a refusal's value", value, 0);
+    expect("a short buffer", create_loc_read(slots, 64, rows, 64, checkpoints, 64, wanted, 1, NULL, 0, &value), GURWYNELL_ANSWERS_TOO_SHORT);
+    return failures != 0;
+}
