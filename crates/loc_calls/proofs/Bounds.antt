@@ -17,7 +17,7 @@ use Rattle.loc_leaf.proofs.Booleans.{is?}
 use Rattle.loc_leaf.proofs.ValueLaws.{needs-row}
 use Rattle.loc_calls.specs.Table.{Entry, valueOf}
 use Rattle.loc_calls.specs.Stores.{gather, rowOf}
-use Rattle.loc_calls.proofs.Gathered.{rowsOf, ValidEntry, AllValid}
+use Rattle.loc_calls.proofs.Gathered.{AllValid}
 use Rattle.loc_calls.proofs.Chains.{lens, spans, Good}
 use Rattle.loc_calls.proofs.Appending.{wholeEnds, AllBelow}
 

@@ -2,20 +2,19 @@
 -- An area may be of any length: one under 16 bytes counts as its length, past which there is nothing.
 use Prim.Native.Nat.{ℕ, zero, suc, _+_, _-_, _*_, _≤_, min}
 use mathlib.Core.Path.{_≡_, refl, ap, _∙_, fun-ext}
-use mathlib.Core.List.{List, [], _∷_, _++_}
+use mathlib.Core.List.{List, [], _∷_}
 use native.Mathlib.Nat.{add-sub-of-le}
 use native.Mathlib.Omega.{arith}
-use lib.ListN.{length, take, drop, replicate}
+use lib.ListN.{length, take, drop}
 use lib.Seq.{drop-drop}
 use Rattle.loc_leaf.specs.declared.Kind.{Kind}
-use Rattle.loc_leaf.specs.declared.Kind.the-variants.{Paired}
-use Rattle.loc_leaf.specs.Bytes.{Bytes, number, bytes, numberAt, store}
+use Rattle.loc_leaf.specs.Bytes.{Bytes, bytes, numberAt, store}
 use Rattle.loc_leaf.specs.Answers.{refuse, answer}
-use Rattle.loc_leaf.specs.Area.{counted, storeLength, storePast, pieces, fill, published}
+use Rattle.loc_leaf.specs.Area.{counted, storeLength, storePast, fill, published}
 use Rattle.loc_leaf.specs.Kind.{rowWidth, checkpointWidth}
-use Rattle.loc_leaf.specs.Slot.{needsRow, slotAt, checkpointRule}
-use Rattle.loc_leaf.specs.Rows.{rowNumber, rowValue, rowList, ascending, lastNumber, rowsUpTo}
-use Rattle.loc_leaf.specs.Cut.{matches, cuts, cutFor}
+use Rattle.loc_leaf.specs.Slot.{slotAt}
+use Rattle.loc_leaf.specs.Rows.{rowList}
+use Rattle.loc_leaf.specs.Cut.{cuts, cutFor}
 use Rattle.loc_leaf.proofs.Stored.{length-store, take-store, drop-store-add}
 use Rattle.loc_leaf.proofs.AreaLaws.{take-min, drop-min, length-storePast}
 use Rattle.loc_calls.specs.Areas.{Three, each, Areas, sizes, count}
@@ -23,7 +22,7 @@ use Rattle.loc_calls.specs.Table.{Call, opening, append, truncate, read}
 use Rattle.loc_calls.specs.Stores.{Place, keep, slotLength, rowLength, checkpointLength, write, step, run, differing, truncatePlaces, nextRow, holdsNext, cutRule, ruledCount, ruled, openPlaces, ragged, openRefusal, settled, newEnd, newEnds, appendPlaces}
 use Rattle.loc_calls.specs.Reading.{lookupAt, valueAt, stridesAfter, spansAfter, checkpointAt, windowEnd, rowMissing, anyMissing, wordsFor}
 use Rattle.loc_calls.specs.Audit.{bodySum, spanSum, checkpointSound, sound}
-use Rattle.loc_calls.specs.Calls.{unlessRefused, tooSmall, unread, isOpening, refusal, places, value, buffer, areasAfter, call, createPlaces, create, audit}
+use Rattle.loc_calls.specs.Calls.{unlessRefused, tooSmall, unread, refusal, places, buffer, areasAfter, call, createPlaces, create, audit}
 use Rattle.loc_calls.specs.Guarantees.{AnyCall, indexCall, creation, auditing, outcome, SameFrom8, SameOutcome, FirstBytesUnread, FirstBytesUnwritten}
 
 -- ---- one area
@@ -293,29 +292,3 @@ unfolding FirstBytesUnwritten outcome call areasAfter create audit
 first-bytes-unwritten (indexCall k s c) a = kept-unless (refusal k c a) (run s (places k c a) a) a (kept-run s (places k c a) a)
 first-bytes-unwritten creation a = kept-unless (refuse (tooSmall a) 1) (run 3 createPlaces a) a (kept-run 3 createPlaces a)
 first-bytes-unwritten (auditing k) a = refl
-
--- ---- computed, with x in bytes 0 to 7
-
-abbrev area : ℕ → ℕ → Bytes → Bytes
-area x n bs = replicate 8 x ++ (bytes 8 n ++ bs)
-
--- one record, and behind the published rows its row (1, 300, 5)
-abbrev behind : ℕ → ℕ → Areas
-behind x n = record {
-  slots = area x n (0 ∷ 5 ∷ []);
-  rows = area x 16 (1 ∷ 0 ∷ 0 ∷ 0 ∷ 0 ∷ 0 ∷ 0 ∷ 0 ∷ 44 ∷ 1 ∷ 0 ∷ 0 ∷ 5 ∷ 0 ∷ 0 ∷ 0 ∷ []);
-  checkpoints = area x 16 [];
-}
-
--- an opening cuts it whatever x is, and leaves x
-pub cut-whatever : (x : ℕ) → call Paired 6 opening (behind x 18) ≡ record { answer = record { number = 0; value = 0 }; buffer = []; areas = behind x 16 }
-unfolding number bytes numberAt store answer counted storeLength pieces fill published needsRow slotAt checkpointRule rowNumber rowValue rowList ascending lastNumber rowsUpTo matches cuts cutFor count step run differing truncatePlaces nextRow holdsNext cutRule ruledCount ruled openPlaces ragged openRefusal unlessRefused tooSmall isOpening refusal places value buffer areasAfter call
-cut-whatever x = refl
-
--- areas of five bytes are refused, and left
-abbrev five : ℕ → Areas
-five x = record { slots = replicate 5 x; rows = replicate 5 x; checkpoints = replicate 5 x }
-
-pub five-left : (x : ℕ) → create (five x) ≡ record { answer = record { number = 1; value = 0 }; buffer = []; areas = five x }
-unfolding answer unlessRefused tooSmall create
-five-left x = refl

@@ -5,7 +5,6 @@ use mathlib.Core.Path.{_≡_, refl, sym, ap, _∙_, subst}
 use mathlib.Core.Bool.{Bool, true, false, true≢false}
 use mathlib.Core.List.{List, [], _∷_, _++_, map}
 use Rattle.loc_leaf.specs.declared.Kind.{Kind}
-use Rattle.loc_leaf.specs.Answers.{answer}
 use Rattle.loc_leaf.specs.Rows.{rowList}
 use Rattle.loc_calls.specs.Areas.{Three, Areas, sizes}
 use Rattle.loc_calls.specs.Table.{Entry, Call, opening, append, truncate, read, table}

@@ -6,7 +6,6 @@ use mathlib.Core.Bool.{false}
 use mathlib.Core.List.{List, [], _∷_, flatten}
 use native.Mathlib.Omega.{arith}
 use lib.ListN.{replicate}
-use Rattle.loc_leaf.specs.declared.Kind.{Kind}
 use Rattle.loc_leaf.specs.declared.Kind.the-variants.{Paired, Single}
 use Rattle.loc_leaf.specs.Bytes.{number, bytes, numberAt, store}
 use Rattle.loc_leaf.specs.Answers.{answer}
@@ -14,13 +13,13 @@ use Rattle.loc_leaf.specs.Area.{counted, storeLength, storePast, pieces, fill, 
 use Rattle.loc_leaf.specs.Slot.{stridesRefusal, slot, storedAsZero, needsRow, inline, slotAt, checkpointRule}
 use Rattle.loc_leaf.specs.Rows.{row, rowNumber, rowValue, rowList, ascending, lastNumber, rowsUpTo, rowFor, hasRow, lookup, slotValue, valueIn}
 use Rattle.loc_leaf.specs.Cut.{matches, cuts, cutFor}
-use Rattle.loc_calls.specs.Areas.{Areas, sizes, count}
-use Rattle.loc_calls.specs.Table.{valueOf, bodyAfter, spanAfter, Batch, opening, append, truncate, read, zipped, entries, uneven, spanless, breaks, entryRefusal, entriesRefusal, endPast, batchRefusal, table}
+use Rattle.loc_calls.specs.Areas.{sizes, count}
+use Rattle.loc_calls.specs.Table.{valueOf, bodyAfter, spanAfter, zipped, entries, uneven, spanless, breaks, entryRefusal, entriesRefusal, endPast, batchRefusal, table}
 use Rattle.loc_calls.specs.Stores.{step, run, differing, truncatePlaces, nextRow, holdsNext, cutRule, ruledCount, ruled, openPlaces, ragged, openRefusal, stores, anyStores, settled, checkpoint, gather, rowOf, checkpointOf, staged, newEnd, newEnds, appendPlaces}
 use Rattle.loc_calls.specs.Reading.{sumAfter, allAfter, lookupAt, has, valueAt, stridesAfter, spansAfter, checkpointAt, windowEnd, lookedAt, within, rowMissing, anyMissing, words, wordsFor, answered, found}
 use Rattle.loc_calls.specs.Calls.{unlessRefused, tooSmall, unread, isOpening, refusal, places, value, lent, buffer, areasAfter, call, createPlaces, create}
 use Rattle.loc_history.specs.Book.{recOf, records, lenSum, spanSum, bodyEnd, spanEnd, checkpointCount, takesRow, rowCount, bookEnds, bookRefusal, bookNext, recordWords, bookWords, Reply, bookReply, longest, longestPart, appendTorn, truncateTorn, bookTorn}
-use Rattle.loc_history.specs.History.{Event, finished, torn, tornBytes, indexAfter, indexGives, indexReplies, bookAfter, bookGives, bookReplies, FirstAt, StartsAt16, CarriesOn, EndsBelow, Narrow, LawfulCall, Awaited, BeforeEnd, LawfulEvent, isTear, Lawful, Sized, AllSized, Demand3}
+use Rattle.loc_history.specs.History.{indexAfter, indexGives, indexReplies, bookAfter, bookGives, bookReplies, FirstAt, StartsAt16, CarriesOn, EndsBelow, Narrow, LawfulCall, Awaited, BeforeEnd, LawfulEvent, isTear, Lawful, Sized, AllSized, Demand3}
 use Rattle.loc_history.proofs.History.{demand3}
 use Rattle.loc_premises.specs.Replies.{gives, refuses, reads, small, wide, Both, Differ}
 use Rattle.loc_premises.specs.Lawful.{story, storyReplies, singleStory, singleReplies, forgedStory, forgedReplies, longStory, longReplies}

@@ -1,10 +1,10 @@
 -- Histories that break one premise of demand 3 and meet all others: the replies of the index, and those of the book.
 -- "Ends below 2^64" has none here: a length is below 2^35, so it takes 2^29 records to break it.
-use Prim.Native.Nat.{ℕ, _+_, _^_}
+use Prim.Native.Nat.{_+_, _^_}
 use mathlib.Core.List.{List, [], _∷_}
 use lib.ListN.{replicate}
 use Rattle.loc_calls.specs.Areas.{Areas}
-use Rattle.loc_calls.specs.Table.{Batch, batch, opening, append, truncate, read}
+use Rattle.loc_calls.specs.Table.{batch, opening, append, truncate, read}
 use Rattle.loc_history.specs.History.{Event, finished, torn}
 use Rattle.loc_premises.specs.Replies.{from}
 

@@ -1,6 +1,5 @@
 -- Lawful histories: of every kind of event, paired and single; with a forged row behind the rows; and over a window's edge.
 -- Each with the replies that index and book give.
-use Prim.Native.Nat.{ℕ}
 use mathlib.Core.List.{List, [], _∷_}
 use lib.ListN.{replicate}
 use Rattle.loc_leaf.specs.declared.Kind.the-variants.{Paired}
