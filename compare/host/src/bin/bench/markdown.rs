@@ -1,0 +1,165 @@
+//! The tables in Markdown. Times in microseconds, ratios of the times that stand beside them.
+//! Nothing is worked out here but ratios, and nanoseconds a row where there are 9,000 rows or more.
+use crate::measure::Both;
+use crate::tables::{Line, Run, Sized, Stored, STORING_RECORDS};
+
+/// From here on what checks do beside the rows is not seen in their time by row.
+pub const MANY_ROWS: usize = 9_000;
+
+pub fn us(seconds: f64) -> String {
+    let t = seconds * 1e6;
+    if t < 10.0 {
+        format!("{t:.2}")
+    } else {
+        format!("{t:.1}")
+    }
+}
+
+pub fn ratio(x: f64) -> String {
+    if x < 10.0 {
+        format!("{x:.2}")
+    } else {
+        format!("{x:.1}")
+    }
+}
+
+/// With commas, as in text.
+pub fn number(n: u64) -> String {
+    let digits = n.to_string();
+    let groups: Vec<&str> = digits.as_bytes().rchunks(3).rev().map(|g| std::str::from_utf8(g).unwrap()).collect();
+    groups.join(",")
+}
+
+impl Line {
+    pub fn against_files(&self) -> f64 {
+        self.times.call / self.times.files
+    }
+
+    pub fn against_memory(&self) -> f64 {
+        self.times.call / self.times.memory
+    }
+
+    pub fn ns_a_row(&self) -> Option<f64> {
+        (self.rows >= MANY_ROWS).then(|| self.times.checks * 1e9 / self.rows as f64)
+    }
+
+    pub fn wanted(&self) -> String {
+        format!("{} {}", self.n, self.spread.name())
+    }
+
+    fn by_row(&self) -> String {
+        self.ns_a_row().map_or(String::new(), |ns| format!("{ns:.2}"))
+    }
+}
+
+pub fn head(columns: &str) {
+    println!("{columns}");
+    println!("{}|", "|---".repeat(columns.matches('|').count() - 1));
+}
+
+pub fn print(run: &Run) {
+    if !run.reading.is_empty() {
+        reading(&run.reading);
+    }
+    if !run.storing.is_empty() {
+        storing(&run.storing);
+    }
+    if !run.size.is_empty() {
+        size(&run.size);
+    }
+    if !run.numbers.is_empty() {
+        numbers(&run.numbers);
+    }
+}
+
+fn reading(lines: &[Line]) {
+    println!("\n## Reading\n");
+    head("| kind | records | rows | numbers | call | original, files | call / files | checks | ns a row | original, memory | call / memory |");
+    for line in lines {
+        let (kind, t) = (line.kind.name(), &line.times);
+        println!(
+            "| {kind} | {} | {} | {} | {} | {} | {} | {} | {} | {} | {} |",
+            line.records,
+            line.density,
+            line.wanted(),
+            us(t.call),
+            us(t.files),
+            ratio(line.against_files()),
+            us(t.checks),
+            line.by_row(),
+            us(t.memory),
+            ratio(line.against_memory()),
+        );
+    }
+}
+
+impl Stored {
+    pub fn name(&self) -> String {
+        match self.call {
+            "append" => format!("append of {}", self.n),
+            "truncation" => format!("truncation by {}", self.n),
+            other => other.to_string(),
+        }
+    }
+
+    pub fn against_files(&self) -> f64 {
+        self.times.0 / self.times.1
+    }
+}
+
+fn storing(lines: &[Stored]) {
+    println!("\n## Opening, append and truncation, index of {} records\n", number(STORING_RECORDS));
+    head("| kind | rows | call | port | original, files | port / files |");
+    for line in lines {
+        let ((port, files), ratio) = (line.times, ratio(line.against_files()));
+        println!(
+            "| {} | {} | {} | {} | {} | {ratio} |",
+            line.kind.name(),
+            line.density,
+            line.name(),
+            us(port),
+            us(files)
+        );
+    }
+}
+
+fn both((port, files): Both) -> String {
+    format!("{}, {}", us(port), us(files))
+}
+
+fn size(lines: &[Sized]) {
+    println!("\n## Cost against index size and rows\n");
+    head("| kind | rows | records | published rows | checks | ns a row | open: port, files | append of 100: port, files | truncation by 100: port, files | 32 numbers in 1 window: call, files, call / files |");
+    for Sized { line, open, append, truncation } in lines {
+        println!(
+            "| {} | {} | {} | {} | {} | {} | {} | {} | {} | {}, {} |",
+            line.kind.name(),
+            line.density,
+            line.records,
+            line.rows,
+            us(line.times.checks),
+            line.by_row(),
+            both(*open),
+            both(*append),
+            both(*truncation),
+            both((line.times.call, line.times.files)),
+            ratio(line.against_files()),
+        );
+    }
+}
+
+fn numbers(lines: &[Line]) {
+    println!("\n## Cost against wanted numbers, index of {} records without rows\n", number(lines[0].records));
+    println!("Each cell: call, original on files, call / files, call / memory.\n");
+    head("| kind | numbers | in 1 window | in 1 window, rising | over all windows |");
+    for three in lines.chunks(3) {
+        let cells: Vec<String> = three
+            .iter()
+            .map(|line| {
+                let pair = both((line.times.call, line.times.files));
+                format!("{pair}, {}, {}", ratio(line.against_files()), ratio(line.against_memory()))
+            })
+            .collect();
+        println!("| {} | {} | {} |", three[0].kind.name(), three[0].n, cells.join(" | "));
+    }
+}

@@ -1,0 +1,130 @@
+//! What is measured: a reading, an append with the truncation that takes it back, an opening.
+//! Before a reading is timed the answers of port and original are compared.
+use crate::index::{batch, Index};
+use crate::turns::{group, over_calls, over_lists, spent, Setting, Side};
+use crate::wanted::Spread;
+use host::areas::SLOTS;
+use host::judge::{Folder, Judge};
+use host::pick::Pick;
+use host::port;
+use original::io_handle::cut_after;
+use original::Fk;
+use std::hint::black_box;
+
+/// Seconds of one reading. `checks` is a call that is refused with 15 just after numbers 1 and 6; `files` the original's whole call;
+/// `memory` its planning and extraction, with the windows' bytes copied from memory.
+#[derive(Clone, Copy)]
+pub struct Reading {
+    pub call: f64,
+    pub files: f64,
+    pub checks: f64,
+    pub memory: f64,
+}
+
+macro_rules! from_memory {
+    ($loc:expr, $slots:expr, $numbers:expr) => {{
+        let mut plan = $loc.plan_range_batch($numbers).ok().unwrap();
+        for (at, buf) in plan.reads() {
+            let n = buf.len();
+            buf.copy_from_slice(&$slots[at as usize..at as usize + n]);
+        }
+        black_box($loc.finish_range_batch(&plan).ok().unwrap()).len()
+    }};
+}
+
+fn in_memory(judge: &Judge, slots: &[u8], numbers: &[Fk]) -> usize {
+    match judge {
+        Judge::Paired(loc) => from_memory!(loc, slots, numbers),
+        Judge::Single(loc) => from_memory!(loc, slots, numbers),
+    }
+}
+
+fn on_files(judge: &Judge, numbers: &[Fk]) -> usize {
+    match judge {
+        Judge::Paired(loc) => black_box(loc.range_batch(numbers).ok().unwrap()).len(),
+        Judge::Single(loc) => black_box(loc.range_batch(numbers).ok().unwrap()).len(),
+    }
+}
+
+fn compare(index: &Index, lists: &[Vec<u64>], buffer: &mut [u64]) {
+    for list in lists {
+        assert_eq!(port::read(index.kind, &index.areas, list, buffer), (0, list.len() as u64));
+        let (_, words) = index.judge.read(list).ok().expect("every row is there");
+        assert_eq!(words, buffer, "port and original answer differently");
+    }
+}
+
+/// The sides of the original are half of the lists apart and have turns of the same lists: neither follows the other on a list.
+/// Each side of the port comes after one of the original, and the other way round.
+pub fn reading(index: &Index, n: usize, spread: Spread, setting: &Setting) -> Reading {
+    let lists = spread.lists(n, index.records);
+    let numbers: Vec<Vec<Fk>> = lists.iter().map(|list| list.iter().map(|&id| Fk::new(id)).collect()).collect();
+    let mut buffer = vec![0u64; index.kind.words() * n];
+    compare(index, &lists, &mut buffer);
+    let too_many = vec![1; 1025];
+    assert_eq!(port::read(index.kind, &index.areas, &too_many, &mut []).0, 15);
+    let mut call = |i: usize| {
+        black_box(port::read(index.kind, &index.areas, black_box(&lists[i]), &mut buffer));
+    };
+    let mut files = |i: usize| {
+        black_box(on_files(&index.judge, black_box(&numbers[i])));
+    };
+    let mut checks = |_: usize| {
+        black_box(port::read(index.kind, &index.areas, black_box(&too_many), &mut []));
+    };
+    let mut memory = |i: usize| {
+        black_box(in_memory(&index.judge, &index.areas[SLOTS], black_box(&numbers[i])));
+    };
+    let (ours, theirs) = (group(lists.len(), &mut call), group(lists.len(), &mut files));
+    let times = over_lists(
+        setting,
+        lists.len(),
+        &mut [
+            Side { run: &mut call, group: ours, from: 0 },
+            Side { run: &mut files, group: theirs, from: 0 },
+            Side { run: &mut checks, group: ours, from: 0 },
+            Side { run: &mut memory, group: theirs, from: lists.len() / 2 },
+        ],
+    );
+    Reading { call: times[0], files: times[1], checks: times[2], memory: times[3] }
+}
+
+/// Port and original.
+pub type Both = (f64, f64);
+
+/// Times of append and of the truncation that takes it back, call by call.
+/// `cut_after` empties the list of the original's writes, which only the comparison needs, and cuts none.
+pub fn storing(index: &mut Index, n: usize, rows_one_in: u64, setting: &Setting) -> [Both; 2] {
+    let mut ends = index.ends;
+    let b = batch(index.kind, &mut Pick::new(n as u64), n, rows_one_in, &mut ends);
+    let Index { kind, records, areas, judge, .. } = index;
+    let (longer, records) = (*records + n as u64, *records);
+    let mut best = [(f64::MAX, f64::MAX); 2];
+    setting.calls(|_| {
+        cut_after(u64::MAX);
+        let port_append = spent(|| assert_eq!(port::append(*kind, areas, black_box(&b)).1, longer));
+        let port_truncate = spent(|| assert_eq!(port::truncate(*kind, areas, black_box(records)).1, records));
+        let append = spent(|| assert_eq!(judge.append(black_box(&b)), Ok(longer)));
+        let truncate = spent(|| assert_eq!(judge.truncate(black_box(records)), Ok(records)));
+        best[0] = (best[0].0.min(port_append), best[0].1.min(append));
+        best[1] = (best[1].0.min(port_truncate), best[1].1.min(truncate));
+    });
+    best
+}
+
+pub fn opening(index: &mut Index, folder: &Folder, setting: &Setting) -> Both {
+    let kind = index.kind;
+    let areas = &mut index.areas;
+    let best = over_calls(
+        setting,
+        &mut [
+            &mut || {
+                black_box(port::open(kind, black_box(areas)));
+            },
+            &mut || {
+                black_box(Judge::open(kind, folder.dir()).ok().map(|judge| judge.count()));
+            },
+        ],
+    );
+    (best[0], best[1])
+}

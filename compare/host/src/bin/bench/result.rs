@@ -1,0 +1,222 @@
+//! What the tables say, worked out from the same lines, as the document's section Result.
+//! Every figure and every "all of them" in its text is computed here.
+use crate::markdown::{head, number, ratio, us, MANY_ROWS};
+use crate::tables::{Line, Run, Stored, GROWTH};
+use crate::wanted::{Spread, WORKLOADS};
+use std::cmp::Ordering;
+
+/// The figures of a list: least, median, largest.
+struct Figures(Vec<f64>);
+
+impl Figures {
+    fn of(values: impl Iterator<Item = f64>) -> Figures {
+        let mut list: Vec<f64> = values.collect();
+        list.sort_by(|a, b| a.partial_cmp(b).unwrap_or(Ordering::Equal));
+        Figures(list)
+    }
+
+    fn least(&self) -> f64 {
+        self.0.first().copied().unwrap_or(f64::NAN)
+    }
+
+    fn largest(&self) -> f64 {
+        self.0.last().copied().unwrap_or(f64::NAN)
+    }
+
+    fn median(&self) -> f64 {
+        let n = self.0.len();
+        if n == 0 {
+            return f64::NAN;
+        }
+        (self.0[(n - 1) / 2] + self.0[n / 2]) / 2.0
+    }
+
+    fn above(&self, limit: f64) -> usize {
+        self.0.iter().filter(|&&x| x > limit).count()
+    }
+}
+
+pub fn print(run: &Run) {
+    println!("## Result\n");
+    if !run.reading.is_empty() {
+        headline(&run.reading);
+        slower(&run.reading);
+    }
+    if !run.growth.is_empty() {
+        growth(&run.growth);
+    }
+    checks(run);
+    memory(run);
+    if !run.storing.is_empty() {
+        storing(&run.storing);
+    }
+    if !run.numbers.is_empty() {
+        numbers(&run.numbers);
+    }
+}
+
+/// Numbers of rows that are told apart: none, and about so many.
+const CLASSES: [(usize, usize); 5] = [(0, 0), (1, 899), (900, 8_999), (9_000, 89_999), (90_000, usize::MAX)];
+
+fn headline(lines: &[Line]) {
+    let all = Figures::of(lines.iter().map(Line::against_files));
+    println!(
+        "**A reading as a user has it** (*call / files*, {} readings): median {}, from {} to {}; above 0.5 in {}, above 1 in {}.\n",
+        lines.len(),
+        ratio(all.median()),
+        ratio(all.least()),
+        ratio(all.largest()),
+        all.above(0.5),
+        all.above(1.0)
+    );
+    head("| published rows | readings | median | least | largest | above 0.5 | above 1 |");
+    for (from, to) in CLASSES {
+        let of_class: Vec<&Line> = lines.iter().filter(|line| (from..=to).contains(&line.rows)).collect();
+        let f = Figures::of(of_class.iter().map(|line| line.against_files()));
+        let rows = Figures::of(of_class.iter().map(|line| line.rows as f64));
+        let name = match rows.largest() as u64 {
+            0 => "none".to_string(),
+            most => format!("{} to {}", number(rows.least() as u64), number(most)),
+        };
+        println!(
+            "| {name} | {} | {} | {} | {} | {} | {} |",
+            of_class.len(),
+            ratio(f.median()),
+            ratio(f.least()),
+            ratio(f.largest()),
+            f.above(0.5),
+            f.above(1.0)
+        );
+    }
+}
+
+/// The readings in which the port takes longer, and what part of them the checks are.
+fn slower(lines: &[Line]) {
+    let slow: Vec<&Line> = lines.iter().filter(|line| line.against_files() > 1.0).collect();
+    if slow.is_empty() {
+        println!("\nIn no reading the port takes longer than the original's whole call.");
+        return;
+    }
+    let rows = Figures::of(slow.iter().map(|line| line.rows as f64));
+    let part = Figures::of(slow.iter().map(|line| line.times.checks / line.times.call));
+    println!(
+        "\nThe port takes longer in {} readings, of indexes with {} rows and more. The reason is number 6: it goes over all rows in every call,",
+        slow.len(),
+        number(rows.least() as u64)
+    );
+    println!(
+        "and the original looks at them once, at opening. In these readings the checks alone take {} of the call's time and more.\n",
+        ratio(part.least())
+    );
+    head("| kind | records | rows | numbers | call | checks | original, files | call / files |");
+    for line in slow {
+        println!(
+            "| {} | {} | {} | {} | {} | {} | {} | {} |",
+            line.kind.name(),
+            line.records,
+            line.density,
+            line.wanted(),
+            us(line.times.call),
+            us(line.times.checks),
+            us(line.times.files),
+            ratio(line.against_files())
+        );
+    }
+}
+
+/// *call / files* as the rows become more, and the number of rows from which on it stays above 1.
+fn growth(lines: &[Line]) {
+    println!("\n**From how many rows on**: *call / files* of indexes with 1 % rows, each measured. The last column is the least number of rows in");
+    println!("the table from which on it stays above 1.\n");
+    let names: Vec<String> = GROWTH.iter().map(|records| format!("{} rows", number(records / 100))).collect();
+    head(&format!("| kind | numbers | {} | above 1 from |", names.join(" | ")));
+    for kind in crate::index::KINDS {
+        for (n, spread) in WORKLOADS {
+            let same: Vec<&Line> = lines.iter().filter(|l| l.kind == kind && l.n == n && l.spread == spread).collect();
+            let cells: Vec<String> = same.iter().map(|line| ratio(line.against_files())).collect();
+            let below = same.iter().rposition(|line| line.against_files() <= 1.0).map_or(0, |place| place + 1);
+            let from = GROWTH.get(below).map_or("-".to_string(), |records| number(records / 100));
+            println!("| {} | {n} {} | {} | {from} |", kind.name(), spread.name(), cells.join(" | "));
+        }
+    }
+}
+
+/// Two ranges: where a turn is many calls, and where it is few and the original's many windows were read in between.
+fn checks(run: &Run) {
+    let far = |line: &&Line| line.spread == Spread::AllWindows && line.n >= 256;
+    let bare = |far: &dyn Fn(&&Line) -> bool| {
+        let f = Figures::of(run.all().filter(|line| line.rows == 0).filter(far).map(|line| line.times.checks));
+        format!("{} to {} µs without rows", us(f.least()), us(f.largest()))
+    };
+    let by_row = |far: &dyn Fn(&&Line) -> bool| {
+        let f = Figures::of(run.all().filter(far).filter_map(Line::ns_a_row));
+        format!("{:.2} to {:.2} ns a row, median {:.2}", f.least(), f.largest(), f.median())
+    };
+    let above = run.all().filter(|line| line.times.checks > line.times.call).count();
+    println!("\n**The checks**, over the readings of all tables, by row from {} rows on:", number(MANY_ROWS as u64));
+    println!("{}, {};", bare(&|l| !far(l)), by_row(&|l| !far(l)));
+    println!("beside readings of 256 to 1,024 numbers over all windows, which put the port's code and rows out of the nearer caches,");
+    println!("{}, {}.", bare(&far), by_row(&far));
+    println!("They are above the time of the call itself in {above} of {} readings.", run.all().count());
+}
+
+/// The original without its file reads, and how often it seems slower so.
+fn memory(run: &Run) {
+    let all: Vec<&Line> = run.all().collect();
+    let ours = Figures::of(run.reading.iter().map(Line::against_memory));
+    let theirs = Figures::of(all.iter().map(|line| line.times.memory / line.times.files));
+    println!(
+        "\n**The original in memory** (*call / memory*, table Reading): median {}, from {} to {}; above 0.5 in {}, above 1 in {}.",
+        ratio(ours.median()),
+        ratio(ours.least()),
+        ratio(ours.largest()),
+        ours.above(0.5),
+        ours.above(1.0)
+    );
+    println!(
+        "Its time in memory is {} to {} of its time on files, median {}; above 1 in {} of the {} readings of all tables.",
+        ratio(theirs.least()),
+        ratio(theirs.largest()),
+        ratio(theirs.median()),
+        theirs.above(1.0),
+        all.len()
+    );
+}
+
+fn storing(lines: &[Stored]) {
+    let of = |call: &str, density: &str| {
+        let wanted = |line: &&Stored| line.call == call && (density.is_empty() || line.density == density);
+        Figures::of(lines.iter().filter(wanted).map(Stored::against_files))
+    };
+    let range = |f: Figures| format!("{} to {}", ratio(f.least()), ratio(f.largest()));
+    let rows = Figures::of(lines.iter().filter(|line| line.density == "10 %").map(|line| line.rows as f64));
+    println!(
+        "\n**Opening** takes at most {} of the original's time, **truncation** at most {}.",
+        ratio(of("open", "").largest()),
+        ratio(of("truncation", "").largest())
+    );
+    println!(
+        "**Append** takes {} of it without rows, {} with 1 %,",
+        range(of("append", "none")),
+        range(of("append", "1 %"))
+    );
+    println!(
+        "and {} with 10 % ({} rows and more), since it goes over them too.",
+        range(of("append", "10 %")),
+        number(rows.least() as u64)
+    );
+}
+
+fn numbers(lines: &[Line]) {
+    let f = Figures::of(lines.iter().map(Line::against_files));
+    let m = Figures::of(lines.iter().map(Line::against_memory));
+    println!(
+        "\n**Wanted numbers**, from 1 to 1,024 without rows: *call / files* {} to {}, median {}; *call / memory* {} to {}, median {}.",
+        ratio(f.least()),
+        ratio(f.largest()),
+        ratio(f.median()),
+        ratio(m.least()),
+        ratio(m.largest()),
+        ratio(m.median())
+    );
+}

@@ -1,0 +1,134 @@
+//! The tables' measurements: which indexes and which calls.
+//! Every table has its own; what is in two tables was measured for each.
+use crate::index::{build, Index, DENSITIES, KINDS};
+use crate::measure::{opening, reading, storing, Both, Reading};
+use crate::turns::Setting;
+use crate::wanted::{Spread, WORKLOADS};
+use host::areas::Kind;
+use host::judge::Folder;
+
+/// One reading of one index.
+#[derive(Clone)]
+pub struct Line {
+    pub kind: Kind,
+    pub records: u64,
+    pub density: &'static str,
+    pub rows: usize,
+    pub n: usize,
+    pub spread: Spread,
+    pub times: Reading,
+}
+
+/// One call that stores, or an opening.
+pub struct Stored {
+    pub kind: Kind,
+    pub density: &'static str,
+    pub rows: usize,
+    pub call: &'static str,
+    pub n: usize,
+    pub times: Both,
+}
+
+/// All calls on an index of one size.
+pub struct Sized {
+    pub line: Line,
+    pub open: Both,
+    pub append: Both,
+    pub truncation: Both,
+}
+
+#[derive(Default)]
+pub struct Run {
+    pub reading: Vec<Line>,
+    pub growth: Vec<Line>,
+    pub storing: Vec<Stored>,
+    pub size: Vec<Sized>,
+    pub numbers: Vec<Line>,
+}
+
+impl Run {
+    /// Every reading of every table.
+    pub fn all(&self) -> impl Iterator<Item = &Line> {
+        let sized = self.size.iter().map(|s| &s.line);
+        self.reading.iter().chain(&self.growth).chain(sized).chain(&self.numbers)
+    }
+}
+
+fn line(index: &Index, density: &'static str, n: usize, spread: Spread, setting: &Setting) -> Line {
+    let times = reading(index, n, spread, setting);
+    Line { kind: index.kind, records: index.records, density, rows: index.row_count(), n, spread, times }
+}
+
+/// Every workload that the index has windows for.
+fn workloads(index: &Index, density: &'static str, setting: &Setting) -> Vec<Line> {
+    let fits = |spread| spread != Spread::AllWindows || index.records >= 1024;
+    let fitting = WORKLOADS.into_iter().filter(|&(_, spread)| fits(spread));
+    fitting.map(|(n, spread)| line(index, density, n, spread, setting)).collect()
+}
+
+/// Reading at three sizes: every workload, without rows, with 1 % and with 10 %.
+pub fn reading_table(run: &mut Run, folder: &Folder, setting: &Setting) {
+    for kind in KINDS {
+        for records in [1_000, 100_000, 1_000_000] {
+            for (density, one_in) in DENSITIES {
+                run.reading.extend(workloads(&build(kind, folder, records, one_in), density, setting));
+            }
+        }
+    }
+}
+
+pub const GROWTH: [u64; 7] = [100_000, 200_000, 500_000, 1_000_000, 2_000_000, 5_000_000, 10_000_000];
+
+/// Reading with 1 % rows, from about 1,000 rows to 100,000.
+pub fn growth_table(run: &mut Run, folder: &Folder, setting: &Setting) {
+    for kind in KINDS {
+        for records in GROWTH {
+            run.growth.extend(workloads(&build(kind, folder, records, 100), "1 %", setting));
+        }
+    }
+}
+
+pub const STORING_RECORDS: u64 = 102_400;
+
+pub fn storing_table(run: &mut Run, folder: &Folder, setting: &Setting) {
+    for kind in KINDS {
+        for (density, one_in) in DENSITIES {
+            let mut index = build(kind, folder, STORING_RECORDS, one_in);
+            let rows = index.row_count();
+            let stored = |call, n, times| Stored { kind, density, rows, call, n, times };
+            run.storing.push(stored("open", 0, opening(&mut index, folder, setting)));
+            for n in [1, 100, 1024] {
+                let [append, truncation] = storing(&mut index, n, one_in, setting);
+                run.storing.push(stored("append", n, append));
+                run.storing.push(stored("truncation", n, truncation));
+            }
+        }
+    }
+}
+
+/// How cost grows with the index and its rows.
+pub fn size_table(run: &mut Run, folder: &Folder, setting: &Setting) {
+    for kind in KINDS {
+        for (density, one_in) in DENSITIES {
+            for records in [1_000, 10_000, 100_000, 1_000_000, 4_000_000] {
+                let mut index = build(kind, folder, records, one_in);
+                let line = line(&index, density, 32, Spread::OneWindow, setting);
+                let open = opening(&mut index, folder, setting);
+                let [append, truncation] = storing(&mut index, 100, one_in, setting);
+                run.size.push(Sized { line, open, append, truncation });
+            }
+        }
+    }
+}
+
+/// How cost grows with the wanted numbers.
+pub fn numbers_table(run: &mut Run, folder: &Folder, setting: &Setting) {
+    for kind in KINDS {
+        let index = build(kind, folder, 1 << 20, 0);
+        for n in [1, 2, 4, 8, 16, 32, 33, 64, 128, 256, 512, 1024] {
+            for spread in [Spread::OneWindow, Spread::Rising, Spread::AllWindows] {
+                run.numbers.push(line(&index, "none", n, spread, setting));
+            }
+        }
+    }
+}
