@@ -6,12 +6,13 @@ use crate::tables::{Line, Run, Sized, Stored, STORING_RECORDS};
 /// From here on what checks do beside the rows is not seen in their time by row.
 pub const MANY_ROWS: usize = 9_000;
 
+/// Microseconds with three digits or more.
 pub fn us(seconds: f64) -> String {
     let t = seconds * 1e6;
-    if t < 10.0 {
-        format!("{t:.2}")
-    } else {
-        format!("{t:.1}")
+    match t {
+        _ if t < 1.0 => format!("{t:.3}"),
+        _ if t < 10.0 => format!("{t:.2}"),
+        _ => format!("{t:.1}"),
     }
 }
 
@@ -23,6 +24,11 @@ pub fn ratio(x: f64) -> String {
     }
 }
 
+/// A ratio as it is printed, so that what is counted and what is read agree.
+pub fn over(a: f64, b: f64) -> f64 {
+    ratio(a / b).parse().unwrap_or(f64::NAN)
+}
+
 /// With commas, as in text.
 pub fn number(n: u64) -> String {
     let digits = n.to_string();
@@ -32,11 +38,11 @@ pub fn number(n: u64) -> String {
 
 impl Line {
     pub fn against_files(&self) -> f64 {
-        self.times.call / self.times.files
+        over(self.times.call, self.times.files)
     }
 
     pub fn against_memory(&self) -> f64 {
-        self.times.call / self.times.memory
+        over(self.times.call, self.times.memory)
     }
 
     pub fn ns_a_row(&self) -> Option<f64> {
@@ -45,6 +51,10 @@ impl Line {
 
     pub fn wanted(&self) -> String {
         format!("{} {}", self.n, self.spread.name())
+    }
+
+    pub fn name(&self) -> String {
+        format!("{}, {}", self.kind.name(), self.wanted())
     }
 
     fn by_row(&self) -> String {
@@ -103,7 +113,7 @@ impl Stored {
     }
 
     pub fn against_files(&self) -> f64 {
-        self.times.0 / self.times.1
+        over(self.times.0, self.times.1)
     }
 }
 

@@ -1,7 +1,7 @@
 //! What the tables say, worked out from the same lines, as the document's section Result.
 //! Every figure and every "all of them" in its text is computed here.
-use crate::markdown::{head, number, ratio, us, MANY_ROWS};
-use crate::tables::{Line, Run, Stored, GROWTH};
+use crate::markdown::{head, number, over, ratio, us, MANY_ROWS};
+use crate::tables::{Line, Run, GROWTH};
 use crate::wanted::{Spread, WORKLOADS};
 use std::cmp::Ordering;
 
@@ -41,14 +41,19 @@ pub fn print(run: &Run) {
     if !run.reading.is_empty() {
         headline(&run.reading);
         slower(&run.reading);
+        above_half(&run.reading);
     }
     if !run.growth.is_empty() {
         growth(&run.growth);
     }
-    checks(run);
-    memory(run);
+    if run.all().next().is_some() {
+        checks(run);
+    }
+    if !run.reading.is_empty() {
+        memory(run);
+    }
     if !run.storing.is_empty() {
-        storing(&run.storing);
+        storing(run);
     }
     if !run.numbers.is_empty() {
         numbers(&run.numbers);
@@ -57,6 +62,22 @@ pub fn print(run: &Run) {
 
 /// Numbers of rows that are told apart: none, and about so many.
 const CLASSES: [(usize, usize); 5] = [(0, 0), (1, 899), (900, 8_999), (9_000, 89_999), (90_000, usize::MAX)];
+
+/// The numbers of rows that there are in a class.
+fn class_name(rows: impl Iterator<Item = usize>, (from, to): (usize, usize)) -> String {
+    let f = Figures::of(rows.filter(|rows| (from..=to).contains(rows)).map(|rows| rows as f64));
+    match f.largest() as u64 {
+        0 => "none".to_string(),
+        most => format!("{} to {}", number(f.least() as u64), number(most)),
+    }
+}
+
+fn range(f: &Figures) -> String {
+    if f.0.is_empty() {
+        return "-".to_string();
+    }
+    format!("{} to {}", ratio(f.least()), ratio(f.largest()))
+}
 
 fn headline(lines: &[Line]) {
     let all = Figures::of(lines.iter().map(Line::against_files));
@@ -73,11 +94,7 @@ fn headline(lines: &[Line]) {
     for (from, to) in CLASSES {
         let of_class: Vec<&Line> = lines.iter().filter(|line| (from..=to).contains(&line.rows)).collect();
         let f = Figures::of(of_class.iter().map(|line| line.against_files()));
-        let rows = Figures::of(of_class.iter().map(|line| line.rows as f64));
-        let name = match rows.largest() as u64 {
-            0 => "none".to_string(),
-            most => format!("{} to {}", number(rows.least() as u64), number(most)),
-        };
+        let name = class_name(of_class.iter().map(|line| line.rows), (from, to));
         println!(
             "| {name} | {} | {} | {} | {} | {} | {} |",
             of_class.len(),
@@ -98,16 +115,17 @@ fn slower(lines: &[Line]) {
         return;
     }
     let rows = Figures::of(slow.iter().map(|line| line.rows as f64));
-    let part = Figures::of(slow.iter().map(|line| line.times.checks / line.times.call));
+    let part = Figures::of(slow.iter().map(|line| over(line.times.checks, line.times.call)));
     println!(
-        "\nThe port takes longer in {} readings, of indexes with {} rows and more. The reason is number 6: it goes over all rows in every call,",
+        "\nThe port takes longer in {} readings, of indexes with {} rows and more; in these the checks alone are {} of the call and more.",
         slow.len(),
-        number(rows.least() as u64)
-    );
-    println!(
-        "and the original looks at them once, at opening. In these readings the checks alone take {} of the call's time and more.\n",
+        number(rows.least() as u64),
         ratio(part.least())
     );
+    if rows.least() >= MANY_ROWS as f64 {
+        println!("The reason is number 6: it goes over all rows in every call, and the original looks at them once, at opening.");
+    }
+    println!();
     head("| kind | records | rows | numbers | call | checks | original, files | call / files |");
     for line in slow {
         println!(
@@ -124,10 +142,36 @@ fn slower(lines: &[Line]) {
     }
 }
 
+/// The readings above half of the original's time for which the rows are not the reason.
+fn above_half(lines: &[Line]) {
+    let left = |line: &&Line| line.rows < MANY_ROWS && line.against_files() > 0.5;
+    let left: Vec<&Line> = lines.iter().filter(left).collect();
+    let part = Figures::of(left.iter().map(|line| over(line.times.checks, line.times.call)));
+    println!(
+        "\nWith fewer than {} rows it takes more than half of the original's time in {} readings; in these the checks are at most {} of the call.\n",
+        number(MANY_ROWS as u64),
+        left.len(),
+        ratio(part.largest())
+    );
+    head("| kind | records | rows | numbers | call | original, files | call / files |");
+    for line in left {
+        println!(
+            "| {} | {} | {} | {} | {} | {} | {} |",
+            line.kind.name(),
+            line.records,
+            line.density,
+            line.wanted(),
+            us(line.times.call),
+            us(line.times.files),
+            ratio(line.against_files())
+        );
+    }
+}
+
 /// *call / files* as the rows become more, and the number of rows from which on it stays above 1.
 fn growth(lines: &[Line]) {
-    println!("\n**From how many rows on**: *call / files* of indexes with 1 % rows, each measured. The last column is the least number of rows in");
-    println!("the table from which on it stays above 1.\n");
+    println!("\n**From how many rows on**: *call / files* of indexes with 1 % rows, about as many as head the column. The last column is the least number");
+    println!("of rows in the table from which on it stays above 1; a dash where there is none.\n");
     let names: Vec<String> = GROWTH.iter().map(|records| format!("{} rows", number(records / 100))).collect();
     head(&format!("| kind | numbers | {} | above 1 from |", names.join(" | ")));
     for kind in crate::index::KINDS {
@@ -153,18 +197,32 @@ fn checks(run: &Run) {
         format!("{:.2} to {:.2} ns a row, median {:.2}", f.least(), f.largest(), f.median())
     };
     let above = run.all().filter(|line| line.times.checks > line.times.call).count();
-    println!("\n**The checks**, over the readings of all tables, by row from {} rows on:", number(MANY_ROWS as u64));
+    println!(
+        "\n**The checks** in all {} readings, those of tables that do not print them too; by row from {} rows on:",
+        run.all().count(),
+        number(MANY_ROWS as u64)
+    );
     println!("{}, {};", bare(&|l| !far(l)), by_row(&|l| !far(l)));
     println!("beside readings of 256 to 1,024 numbers over all windows, which put the port's code and rows out of the nearer caches,");
     println!("{}, {}.", bare(&far), by_row(&far));
-    println!("They are above the time of the call itself in {above} of {} readings.", run.all().count());
+    println!("They are above the time of the call itself in {above} of these readings.");
+}
+
+/// Names, each once.
+fn listed(names: &mut Vec<String>) -> String {
+    names.sort();
+    names.dedup();
+    if names.is_empty() {
+        return String::new();
+    }
+    format!(" ({})", names.join("; "))
 }
 
 /// The original without its file reads, and how often it seems slower so.
 fn memory(run: &Run) {
     let all: Vec<&Line> = run.all().collect();
     let ours = Figures::of(run.reading.iter().map(Line::against_memory));
-    let theirs = Figures::of(all.iter().map(|line| line.times.memory / line.times.files));
+    let theirs = Figures::of(all.iter().map(|line| over(line.times.memory, line.times.files)));
     println!(
         "\n**The original in memory** (*call / memory*, table Reading): median {}, from {} to {}; above 0.5 in {}, above 1 in {}.",
         ratio(ours.median()),
@@ -173,8 +231,15 @@ fn memory(run: &Run) {
         ours.above(0.5),
         ours.above(1.0)
     );
+    let mut few: Vec<String> = run
+        .reading
+        .iter()
+        .filter(|line| line.rows < MANY_ROWS && line.against_memory() > 1.0)
+        .map(Line::name)
+        .collect();
+    println!("Of the last, {} have fewer than {} rows{}.", few.len(), number(MANY_ROWS as u64), listed(&mut few));
     println!(
-        "Its time in memory is {} to {} of its time on files, median {}; above 1 in {} of the {} readings of all tables.",
+        "Its time in memory is {} to {} of its time on files, median {}; above 1 in {} of all {} readings.",
         ratio(theirs.least()),
         ratio(theirs.largest()),
         ratio(theirs.median()),
@@ -183,28 +248,39 @@ fn memory(run: &Run) {
     );
 }
 
-fn storing(lines: &[Stored]) {
-    let of = |call: &str, density: &str| {
-        let wanted = |line: &&Stored| line.call == call && (density.is_empty() || line.density == density);
-        Figures::of(lines.iter().filter(wanted).map(Stored::against_files))
+/// Published rows, name of the call, and port / files, of the tables that have such calls.
+fn stored(run: &Run) -> Vec<(usize, &'static str, f64)> {
+    let mut list: Vec<_> = run.storing.iter().map(|line| (line.rows, line.call, line.against_files())).collect();
+    for s in &run.size {
+        for (call, (port, files)) in [("open", s.open), ("append", s.append), ("truncation", s.truncation)] {
+            list.push((s.line.rows, call, over(port, files)));
+        }
+    }
+    list
+}
+
+fn storing(run: &Run) {
+    let all = stored(run);
+    let of = |call: &str, (from, to): (usize, usize)| {
+        let wanted = all.iter().filter(|(rows, name, _)| *name == call && (from..=to).contains(rows));
+        Figures::of(wanted.map(|(_, _, ratio)| *ratio))
     };
-    let range = |f: Figures| format!("{} to {}", ratio(f.least()), ratio(f.largest()));
-    let rows = Figures::of(lines.iter().filter(|line| line.density == "10 %").map(|line| line.rows as f64));
+    let any = (0, usize::MAX);
+    let append = of("append", any);
     println!(
-        "\n**Opening** takes at most {} of the original's time, **truncation** at most {}.",
-        ratio(of("open", "").largest()),
-        ratio(of("truncation", "").largest())
+        "\n**Opening** takes at most {} of the original's time, **truncation** at most {}, **append** {} to {} (all tables).",
+        ratio(of("open", any).largest()),
+        ratio(of("truncation", any).largest()),
+        ratio(append.least()),
+        ratio(append.largest())
     );
-    println!(
-        "**Append** takes {} of it without rows, {} with 1 %,",
-        range(of("append", "none")),
-        range(of("append", "1 %"))
-    );
-    println!(
-        "and {} with 10 % ({} rows and more), since it goes over them too.",
-        range(of("append", "10 %")),
-        number(rows.least() as u64)
-    );
+    println!("Append goes over all rows too, which the original does not:\n");
+    head("| published rows | open | append | truncation |");
+    for class in CLASSES {
+        let cells = ["open", "append", "truncation"].map(|call| range(&of(call, class)));
+        println!("| {} | {} |", class_name(all.iter().map(|(rows, _, _)| *rows), class), cells.join(" | "));
+    }
+    println!("\nAppend and truncation are timed call by call; the clock's own {} µs are in them.", us(run.clock));
 }
 
 fn numbers(lines: &[Line]) {

@@ -2,7 +2,7 @@
 //! Every table has its own; what is in two tables was measured for each.
 use crate::index::{build, Index, DENSITIES, KINDS};
 use crate::measure::{opening, reading, storing, Both, Reading};
-use crate::turns::Setting;
+use crate::turns::{spent, Setting};
 use crate::wanted::{Spread, WORKLOADS};
 use host::areas::Kind;
 use host::judge::Folder;
@@ -44,6 +44,7 @@ pub struct Run {
     pub storing: Vec<Stored>,
     pub size: Vec<Sized>,
     pub numbers: Vec<Line>,
+    pub clock: f64,
 }
 
 impl Run {
@@ -91,6 +92,7 @@ pub fn growth_table(run: &mut Run, folder: &Folder, setting: &Setting) {
 pub const STORING_RECORDS: u64 = 102_400;
 
 pub fn storing_table(run: &mut Run, folder: &Folder, setting: &Setting) {
+    run.clock = (0..10_000).map(|_| spent(|| ())).fold(f64::MAX, f64::min);
     for kind in KINDS {
         for (density, one_in) in DENSITIES {
             let mut index = build(kind, folder, STORING_RECORDS, one_in);
