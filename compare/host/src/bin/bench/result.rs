@@ -277,6 +277,15 @@ fn storing(run: &Run) {
         let cells = ["open", "append", "truncation"].map(|call| range(&of(call, class)));
         println!("| {} | {} |", class_name(all.iter().map(|(rows, _, _)| *rows), class), cells.join(" | "));
     }
+    let many = run.size.iter().filter(|s| s.line.rows >= MANY_ROWS);
+    let open = Figures::of(many.map(|s| s.open.0 * 1e9 / s.line.rows as f64));
+    if !run.size.is_empty() {
+        println!(
+            "\nThe port's opening has a loop of its own over the rows: {:.2} to {:.2} ns a row.",
+            open.least(),
+            open.largest()
+        );
+    }
     println!("\nAppend and truncation are timed call by call; the clock's own {} µs are in them.", us(run.clock));
 }
 
