@@ -1,106 +1,132 @@
-// Three areas by value, so that several calls can be run on copies of them.
-// An area is the first `size` of its bytes.
+// Three areas in one array, so that a case can keep a copy: slots from 0 on, rows from 2,080, checkpoints from 2,144.
+// Bytes 0 to 7 of an area, which no call reads or writes, hold its size.
 ghost use mathlib.Core.Path.{_≡_};
 ghost use Prim.Native.Nat.{min};
 ghost use Rattle.io.specs.Counts.{Counts};
+use crate::script::plus;
+use loc_leaf::Kind;
 use loc_leaf::file::logical_len;
 use loc_leaf::file::put_le;
+use loc_leaf::file::u64_at;
 
-pub struct Area {
-    pub size: usize,
-    pub bytes: [u8; 2080],
+pub const SLOTS: usize = 0;
+
+pub const ROWS: usize = 2080;
+
+pub const CHECKPOINTS: usize = 2144;
+
+// An area of a size that publishes nothing.
+fn start(w: &mut [u8; 2192], area: usize, size: u64) {
+    put_le(w, area, 8, size);
+    put_le(w, plus(area, 8), 8, 16);
 }
 
-pub struct Areas {
-    pub slots: Area,
-    pub rows: Area,
-    pub checkpoints: Area,
+// New areas of the sizes that the first three numbers say. Every other byte is 9.
+pub fn renew(w: &mut [u8; 2192], sizes: &[u64; 1040]) {
+    *w = [9; 2192];
+    start(w, SLOTS, sizes[0]);
+    start(w, ROWS, sizes[1]);
+    start(w, CHECKPOINTS, sizes[2]);
 }
 
-fn least(a: usize, b: usize) -> usize
+// Another published length is stored.
+pub fn publish(w: &mut [u8; 2192], area: usize, len: u64) {
+    put_le(w, plus(area, 8), 8, len);
+}
+
+// The n lowest bytes of a value are published behind what is published.
+fn add(w: &mut [u8; 2192], area: usize, n: usize, value: u64) {
+    let end = u64_at(w, plus(area, 8));
+    if end < 2080 {
+        put_le(w, plus(area, end as usize), n, value);
+        put_le(w, plus(area, 8), 8, plus(end as usize, n) as u64);
+    }
+}
+
+pub fn add_slot(w: &mut [u8; 2192], slot: &[u64; 1040]) {
+    add(w, SLOTS, 1, slot[0]);
+    add(w, SLOTS, 1, slot[1]);
+}
+
+// Number, strides and, where paired, span count.
+pub fn add_row(w: &mut [u8; 2192], kind: Kind, row: &[u64; 1040]) {
+    add(w, ROWS, 8, row[0]);
+    add(w, ROWS, 4, row[1]);
+    match kind {
+        Kind::Paired => add(w, ROWS, 4, row[2]),
+        Kind::Single => {}
+    }
+}
+
+// Body end and, where paired, span end.
+pub fn add_checkpoint(w: &mut [u8; 2192], kind: Kind, ends: &[u64; 1040]) {
+    add(w, CHECKPOINTS, 8, ends[0]);
+    match kind {
+        Kind::Paired => add(w, CHECKPOINTS, 8, ends[1]),
+        Kind::Single => {}
+    }
+}
+
+pub fn least(a: usize, b: usize) -> usize
     ensures { λ r. ⌜ r ≡ min a b ⌝ }
 {
     if a < b { a } else { b }
 }
 
-// A size, or all of the bytes where there are fewer.
-fn fitting(size: usize, bytes: &[u8]) -> usize
+// The size, or all of the bytes where there are fewer.
+fn fitting(bytes: &[u8]) -> usize
     ensures { λ r. ⌜ Counts r (now (bytes .entry)) ⌝ }
 {
+    let size = u64_at(bytes, 0) as usize;
     least(size, bytes.len())
 }
 
-// The first bytes, as an area that a call is lent.
-pub fn part(bytes: &mut [u8], size: usize) -> &mut [u8] {
-    let n = fitting(size, bytes);
+// The area that a call is lent: as many of the bytes as its size says.
+pub fn part(bytes: &mut [u8]) -> &mut [u8] {
+    let n = fitting(bytes);
     &mut bytes[..n]
 }
 
-fn put_bytes(bytes: &mut [u8; 2080], content: &[u8]) {
-    let n = least(content.len(), 2064);
+// The bytes from an area's first on.
+pub fn bytes_of(w: &[u8; 2192], area: usize) -> [u8; 2080] {
+    let mut bytes = [0u8; 2080];
+    let mut i = 0;
+    while i < 2080 {
+        let from = plus(area, i);
+        if from < 2192 {
+            bytes[i] = w[from];
+        }
+        i += 1;
+    }
+    bytes
+}
+
+// So many bytes of an area back to their places.
+pub fn put_back(w: &mut [u8; 2192], area: usize, n: usize, bytes: &[u8; 2080]) {
     let mut i = 0;
     while i < n {
-        bytes[16 + i] = content[i];
+        let to = plus(area, i);
+        if i < 2080 {
+            if to < 2192 {
+                w[to] = bytes[i];
+            }
+        }
         i += 1;
     }
 }
 
-fn put_len(bytes: &mut [u8], len: u64) {
-    put_le(bytes, 8, 8, len);
-}
-
-// An area with a stored length and bytes from 16 on; every other byte is 9.
-pub fn area_of(size: usize, len: u64, content: &[u8]) -> Area {
-    let mut bytes = [9u8; 2080];
-    put_len(&mut bytes, len);
-    put_bytes(&mut bytes, content);
-    Area { size, bytes }
-}
-
-// Nothing is published.
-pub fn empty(size: usize) -> Area {
-    area_of(size, 16, b"")
-}
-
-pub fn three(slots: Area, rows: Area, checkpoints: Area) -> Areas {
-    Areas {
-        slots,
-        rows,
-        checkpoints,
-    }
-}
-
-fn counted_in(bytes: &[u8], size: usize) -> u64 {
-    let n = fitting(size, bytes);
+fn counted_in(bytes: &[u8]) -> u64 {
+    let n = fitting(bytes);
     logical_len(&bytes[..n]) as u64
 }
 
 // The published length as it counts.
-pub fn counted(a: Area) -> u64 {
-    let bytes = a.bytes;
-    counted_in(&bytes, a.size)
+pub fn counted(w: &[u8; 2192], area: usize) -> u64 {
+    let bytes = bytes_of(w, area);
+    counted_in(&bytes)
 }
 
-fn same_area(a: Area, b: Area) -> bool {
-    let x = a.bytes;
-    let y = b.bytes;
-    if a.size == b.size {
-        return check::same(&x, &y);
-    }
-    false
-}
-
-pub fn same(a: Areas, b: Areas) -> bool {
-    let old_slots = a.slots;
-    let old_rows = a.rows;
-    let old_checkpoints = a.checkpoints;
-    let new_slots = b.slots;
-    let new_rows = b.rows;
-    let new_checkpoints = b.checkpoints;
-    if same_area(old_slots, new_slots) {
-        if same_area(old_rows, new_rows) {
-            return same_area(old_checkpoints, new_checkpoints);
-        }
-    }
-    false
+// Arrays, since their lengths are in their types.
+pub fn same(a: &[u8; 2192], b: &[u8; 2192]) -> bool {
+    check::same(a, b)
 }

@@ -1,24 +1,17 @@
-// Runs the public calls of both kinds and prints a line for each case.
+// Runs the public calls of both kinds as the script on standard input says, and prints a line for each case.
 // What it must print, the file stdout, is worked out from document 01.
 mod areas;
-mod bases;
+mod batch;
+mod call;
 mod calls;
-mod listing;
+mod cases;
 mod print;
-mod reading;
-mod refusals;
-mod torn;
+mod script;
 
-use loc_leaf::Kind;
+use libc::STDIN_FILENO;
 
 fn main() {
-    listing::cases();
-    refusals::cases(Kind::Paired);
-    reading::refusals(Kind::Paired);
-    refusals::cases(Kind::Single);
-    reading::refusals(Kind::Single);
-    torn::cases(Kind::Paired);
-    torn::cases(Kind::Single);
-    reading::paired_cases();
-    reading::single_cases();
+    let mut text = [0u8; 16384];
+    let n = io::read_full(STDIN_FILENO, &mut text);
+    cases::run(&text[..n]);
 }

@@ -1,15 +1,22 @@
-// A line on standard output: its first word, further words and numbers, its end.
+// A line on standard output: the kind, words of the script, numbers.
 // Fields are parted by a space.
 use libc::STDOUT_FILENO;
+use loc_leaf::Answer;
 use loc_leaf::Kind;
 
 pub fn text(bytes: &[u8]) {
     io::write_all(STDOUT_FILENO, bytes);
 }
 
-pub fn word(bytes: &[u8]) {
-    text(b" ");
-    text(bytes);
+// A part of the script, with the space before its words.
+pub fn words(script: &[u8], from: usize, to: usize) {
+    if to < from {
+        return;
+    }
+    if script.len() < to {
+        return;
+    }
+    text(&script[from..to]);
 }
 
 pub fn first_number(n: u64) {
@@ -33,20 +40,25 @@ pub fn kind(k: Kind) {
     }
 }
 
+pub fn answer(a: Answer) {
+    number(a.number);
+    number(a.value);
+}
+
 // Whether all that was lent stayed as it was.
 pub fn kept(same: bool) {
     if same {
-        word(b"same");
+        text(b" same");
         return;
     }
-    word(b"changed");
+    text(b" changed");
 }
 
-// The words of a list from a place up to another, as far as it reaches.
-pub fn words(list: &[u64], from: usize, to: usize) {
+// The words of an answer buffer from a place up to another.
+pub fn numbers(list: &[u64; 32], from: usize, to: usize) {
     let mut i = from;
     while i < to {
-        if list.len() <= i {
+        if 32 <= i {
             return;
         }
         number(list[i]);

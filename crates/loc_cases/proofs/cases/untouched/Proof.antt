@@ -1,15 +1,14 @@
--- `loc_cases::reading::untouched` meets its contract.
+-- `loc_cases::cases::untouched` meets its contract.
 use Prim.Native.Nat.{_-_, _≤_}
 use borrow.Author.Needs.{needs}
-use lib.ListN.{length}
-use Rattle.loc_cases.proofs.reading.untouched.Statement.{statement}
-use Rattle.loc_cases.proofs.reading.untouched.Tie as tie
+use Rattle.loc_cases.proofs.cases.untouched.Statement.{statement}
+use Rattle.loc_cases.proofs.cases.untouched.Tie as tie
 
 abbrev Inv-loop : tie.InvT-loop
-Inv-loop answers i₀ i = i ≤ length answers
+Inv-loop answers i₀ i = i ≤ 32
 
 abbrev μ-loop : tie.MeasureT-loop
-μ-loop answers i₀ i = length answers - i
+μ-loop answers i₀ i = 32 - i
 
 loop-holds : tie.Need-loop-holds Inv-loop μ-loop
 loop-holds c = search needs
@@ -17,8 +16,8 @@ loop-holds c = search needs
 mul-if1 : tie.Need-mul-if1 Inv-loop μ-loop
 mul-if1 c = search needs
 
-shared-slice-read-if1 : tie.Need-shared-slice-read-if1 Inv-loop μ-loop
-shared-slice-read-if1 c = search needs
+element-copy-out-if1 : tie.Need-element-copy-out-if1 Inv-loop μ-loop
+element-copy-out-if1 c = search needs
 
 returns : tie.Need-returns Inv-loop μ-loop
 returns c = search needs
@@ -43,7 +42,7 @@ untouched-spec =
     μ-loop
     loop-holds
     mul-if1
-    shared-slice-read-if1
+    element-copy-out-if1
     returns
     add-i
     loop-less

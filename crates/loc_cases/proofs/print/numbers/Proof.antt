@@ -1,8 +1,8 @@
--- `loc_cases::print::words` meets its contract.
+-- `loc_cases::print::numbers` meets its contract.
 use Prim.Native.Nat.{_-_, _≤_}
 use borrow.Author.Needs.{needs}
-use Rattle.loc_cases.proofs.print.words.Statement.{statement}
-use Rattle.loc_cases.proofs.print.words.Tie as tie
+use Rattle.loc_cases.proofs.print.numbers.Statement.{statement}
+use Rattle.loc_cases.proofs.print.numbers.Tie as tie
 
 abbrev Inv-loop : tie.InvT-loop
 Inv-loop list from to i₀ i = from ≤ i
@@ -19,8 +19,8 @@ returns c = search needs
 mul-number : tie.Need-mul-number Inv-loop μ-loop
 mul-number c = search needs
 
-shared-slice-read-number : tie.Need-shared-slice-read-number Inv-loop μ-loop
-shared-slice-read-number c = search needs
+element-copy-out-number : tie.Need-element-copy-out-number Inv-loop μ-loop
+element-copy-out-number c = search needs
 
 number-requires : tie.Need-number-requires Inv-loop μ-loop
 number-requires c κs = search needs
@@ -37,8 +37,8 @@ loop-again c = search needs
 returns-2 : tie.Need-returns-2 Inv-loop μ-loop
 returns-2 c = search needs
 
-pub words-spec : {M : Type 1} → statement M
-words-spec =
+pub numbers-spec : {M : Type 1} → statement M
+numbers-spec =
     tie.close
     (tie.spec
     Inv-loop
@@ -46,7 +46,7 @@ words-spec =
     loop-holds
     returns
     mul-number
-    shared-slice-read-number
+    element-copy-out-number
     number-requires
     add-i
     loop-less

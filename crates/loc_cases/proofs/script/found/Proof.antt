@@ -1,0 +1,59 @@
+-- `loc_cases::script::found` meets its contract.
+use Prim.Native.Nat.{_-_, _≤_}
+use lib.ListN.{length}
+use borrow.Author.Needs.{needs}
+use Rattle.loc_cases.proofs.script.found.Statement.{statement}
+use Rattle.loc_cases.proofs.script.found.Tie as tie
+
+abbrev Inv-loop : tie.InvT-loop
+Inv-loop text from byte at₀ at = from ≤ at
+
+abbrev μ-loop : tie.MeasureT-loop
+μ-loop text from byte at₀ at = length text - at
+
+loop-holds : tie.Need-loop-holds Inv-loop μ-loop
+loop-holds c = search needs
+
+shared-slice-read-if1 : tie.Need-shared-slice-read-if1 Inv-loop μ-loop
+shared-slice-read-if1 c = search needs
+
+returns : tie.Need-returns Inv-loop μ-loop
+returns c = search needs
+
+shared-slice-read-is-end : tie.Need-shared-slice-read-is-end Inv-loop μ-loop
+shared-slice-read-is-end c = search needs
+
+is-end-requires : tie.Need-is-end-requires Inv-loop μ-loop
+is-end-requires c κs = search needs
+
+returns-2 : tie.Need-returns-2 Inv-loop μ-loop
+returns-2 c = search needs
+
+add-at : tie.Need-add-at Inv-loop μ-loop
+add-at c = search needs
+
+loop-less : tie.Need-loop-less Inv-loop μ-loop
+loop-less c = search needs
+
+loop-again : tie.Need-loop-again Inv-loop μ-loop
+loop-again c = search needs
+
+returns-3 : tie.Need-returns-3 Inv-loop μ-loop
+returns-3 c = search needs
+
+pub found-spec : {M : Type 1} → statement M
+found-spec =
+    tie.close
+    (tie.spec
+    Inv-loop
+    μ-loop
+    loop-holds
+    shared-slice-read-if1
+    returns
+    shared-slice-read-is-end
+    is-end-requires
+    returns-2
+    add-at
+    loop-less
+    loop-again
+    returns-3)

@@ -1,0 +1,107 @@
+// A call on the three areas of an array, with a line's numbers: the records of a batch, or the count of a truncation.
+// A reading has the words of its answer buffer and then the wanted numbers.
+use crate::areas::CHECKPOINTS;
+use crate::areas::ROWS;
+use crate::areas::SLOTS;
+use crate::areas::bytes_of;
+use crate::areas::part;
+use crate::areas::put_back;
+use crate::batch::fields;
+use crate::batch::first_counts;
+use crate::batch::first_words;
+use crate::batch::part_words;
+use crate::batch::span_counts;
+use crate::batch::starts_in;
+use crate::batch::whole_in;
+use crate::calls::paired;
+use crate::calls::single;
+use loc_leaf::Answer;
+use loc_leaf::Kind;
+
+// All numbers but the first.
+fn wanted(list: &[u64], n: usize) -> &[u64] {
+    if n < 1 {
+        return &list[..0];
+    }
+    if list.len() < n {
+        return &list[..0];
+    }
+    &list[1..n]
+}
+
+// The call on areas that are lent.
+fn on_areas(
+    kind: Kind,
+    letter: u8,
+    places: u64,
+    list: &[u64; 1040],
+    n: usize,
+    slots: &mut [u8],
+    rows: &mut [u8],
+    checkpoints: &mut [u8],
+    answers: &mut [u64],
+) -> Answer {
+    let k = starts_in(list, n);
+    let m = whole_in(list, n);
+    let starts = fields(list, n, 0);
+    let lens = fields(list, n, 1);
+    let span_starts = fields(list, n, 2);
+    let counts = span_counts(list, n);
+    match kind {
+        Kind::Paired => paired(
+            letter,
+            list[0],
+            places,
+            slots,
+            rows,
+            checkpoints,
+            first_words(&starts, k),
+            first_words(&lens, m),
+            first_words(&span_starts, m),
+            first_counts(&counts, m),
+            wanted(list, n),
+            answers,
+        ),
+        Kind::Single => single(
+            letter,
+            list[0],
+            places,
+            slots,
+            rows,
+            checkpoints,
+            first_words(&starts, k),
+            first_words(&lens, m),
+            wanted(list, n),
+            answers,
+        ),
+    }
+}
+
+pub fn call(
+    kind: Kind,
+    letter: u8,
+    places: u64,
+    list: &[u64; 1040],
+    n: usize,
+    w: &mut [u8; 2192],
+    answers: &mut [u64],
+) -> Answer {
+    let mut slots = bytes_of(w, SLOTS);
+    let mut rows = bytes_of(w, ROWS);
+    let mut checkpoints = bytes_of(w, CHECKPOINTS);
+    let answer = on_areas(
+        kind,
+        letter,
+        places,
+        list,
+        n,
+        part(&mut slots),
+        part(&mut rows),
+        part(&mut checkpoints),
+        part_words(answers, list[0] as usize),
+    );
+    put_back(w, SLOTS, 2080, &slots);
+    put_back(w, ROWS, 64, &rows);
+    put_back(w, CHECKPOINTS, 48, &checkpoints);
+    answer
+}
