@@ -43,7 +43,6 @@ impl Trial<'_> {
         Ok(body <= u128::from(u64::MAX) && span <= u128::from(u64::MAX))
     }
 
-    #[cfg(audit)]
     pub fn audit(&mut self) -> Outcome<()> {
         self.steps.push("audit".into());
         let sound = self.sound()?;
@@ -51,12 +50,10 @@ impl Trial<'_> {
         if answer != (0, u64::from(sound)) {
             return Err(format!("audit: port {answer:?}; by the original's readings the index is sound: {sound}"));
         }
-        self.tally.audits[usize::from(sound)] += 1;
-        Ok(())
-    }
-
-    #[cfg(not(audit))]
-    pub fn audit(&mut self) -> Outcome<()> {
+        self.tally.audits[self.kind as usize][usize::from(sound)] += 1;
+        if let Some(tape) = &mut self.tape {
+            tape.audit(sound);
+        }
         Ok(())
     }
 }

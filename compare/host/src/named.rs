@@ -111,7 +111,7 @@ fn opening(trial: &mut Trial, kept: u64) -> Outcome<()> {
     if count != Some(kept) {
         return Err(format!("both sides keep {count:?}, document 01 has {kept}"));
     }
-    Ok(())
+    trial.audit()
 }
 
 type Inline = (&'static str, u32, u32, [u8; 2], usize);
@@ -147,5 +147,5 @@ fn one_record(trial: &mut Trial, strides: u32, spans: u32, slot: [u8; 2], rows: 
     if trial.areas[SLOTS][16..18] != slot || crate::areas::pieces(trial.kind, &trial.areas, ROWS) != rows {
         return Err(format!("both sides store slot {:?}", &trial.areas[SLOTS][16..18]));
     }
-    Ok(())
+    trial.audit()
 }

@@ -6,23 +6,19 @@ use crate::judge::Batch;
 #[rustfmt::skip]
 mod c {
     macro_rules! calls {
-        ($create:ident $open:ident $open_run:ident $truncate:ident $truncate_run:ident $read:ident) => {
+        ($create:ident $open:ident $open_run:ident $truncate:ident $truncate_run:ident $read:ident $audit:ident) => {
             pub fn $create(s: *mut u8, sn: usize, r: *mut u8, rn: usize, c: *mut u8, cn: usize, value: *mut u64) -> u64;
             pub fn $open(s: *mut u8, sn: usize, r: *mut u8, rn: usize, c: *mut u8, cn: usize, value: *mut u64) -> u64;
             pub fn $open_run(s: *mut u8, sn: usize, r: *mut u8, rn: usize, c: *mut u8, cn: usize, places: u64, value: *mut u64) -> u64;
             pub fn $truncate(s: *mut u8, sn: usize, r: *mut u8, rn: usize, c: *mut u8, cn: usize, count: u64, value: *mut u64) -> u64;
             pub fn $truncate_run(s: *mut u8, sn: usize, r: *mut u8, rn: usize, c: *mut u8, cn: usize, count: u64, places: u64, value: *mut u64) -> u64;
             pub fn $read(s: *const u8, sn: usize, r: *const u8, rn: usize, c: *const u8, cn: usize, wanted: *const u64, wn: usize, answers: *mut u64, an: usize, value: *mut u64) -> u64;
+            pub fn $audit(s: *const u8, sn: usize, r: *const u8, rn: usize, c: *const u8, cn: usize, value: *mut u64) -> u64;
         };
     }
-    #[cfg(audit)]
     extern "C" {
-        pub fn create_loc_audit(s: *const u8, sn: usize, r: *const u8, rn: usize, c: *const u8, cn: usize, value: *mut u64) -> u64;
-        pub fn delta_loc_audit(s: *const u8, sn: usize, r: *const u8, rn: usize, c: *const u8, cn: usize, value: *mut u64) -> u64;
-    }
-    extern "C" {
-        calls!(create_loc_create create_loc_open create_loc_open_run create_loc_truncate create_loc_truncate_run create_loc_read);
-        calls!(delta_loc_create delta_loc_open delta_loc_open_run delta_loc_truncate delta_loc_truncate_run delta_loc_read);
+        calls!(create_loc_create create_loc_open create_loc_open_run create_loc_truncate create_loc_truncate_run create_loc_read create_loc_audit);
+        calls!(delta_loc_create delta_loc_open delta_loc_open_run delta_loc_truncate delta_loc_truncate_run delta_loc_read delta_loc_audit);
         pub fn create_loc_append(
             s: *mut u8, sn: usize, r: *mut u8, rn: usize, c: *mut u8, cn: usize,
             starts: *const u64, starts_n: usize, lens: *const u64, lens_n: usize,
@@ -224,7 +220,6 @@ pub fn read(kind: Kind, areas: &Areas, wanted: &[u64], answers: &mut [u64]) -> A
     (number, value)
 }
 
-#[cfg(audit)]
 pub fn audit(kind: Kind, areas: &Areas) -> Answer {
     let [s, r, k] = areas;
     let mut value = UNSET;

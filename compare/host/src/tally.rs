@@ -34,8 +34,8 @@ pub struct Tally {
     /// States that a cut of the original left, all compared.
     pub states: u64,
     pub histories: u64,
-    /// Audits: of an index that is not sound, and of one that is.
-    pub audits: [u64; 2],
+    /// Audits by kind: of an index that is not sound, and of one that is.
+    pub audits: [[u64; 2]; 2],
 }
 
 /// Refusals that document 01 adds: the port's alone, so there is nothing to compare but that they come where it says.
@@ -74,6 +74,11 @@ impl Tally {
                     list.push(format!("{} {name}", kind.name()));
                 }
             }
+            for (sound, name) in ["unsound", "sound"].into_iter().enumerate() {
+                if self.audits[kind as usize][sound] == 0 {
+                    list.push(format!("{} audit of {name} areas", kind.name()));
+                }
+            }
         }
         list
     }
@@ -99,12 +104,9 @@ impl Tally {
                 .collect();
             format!("{}: {}", kind.name(), list.join(", "))
         };
-        let audits = match self.audits {
-            [0, 0] => String::new(),
-            [not, sound] => format!(", {sound} audits of sound and {not} of unsound areas"),
-        };
+        let [unsound, sound] = [0, 1].map(|sound| self.audits[0][sound] + self.audits[1][sound]);
         format!(
-            "comparison with the original: {} calls in {} histories agree ({}; {}), with {} torn states and {} openings that stored{audits}; {} refusals that only the port has",
+            "comparison with the original: {} calls in {} histories agree ({}; {}), with {} torn states and {} openings that stored, {sound} audits of sound and {unsound} of unsound areas; {} refusals that only the port has",
             self.compared(),
             self.histories,
             of(Kind::Paired),

@@ -25,6 +25,7 @@ mod step {
     pub const APPEND: u8 = 9;
     pub const TRUNCATE: u8 = 10;
     pub const READ: u8 = 11;
+    pub const AUDIT: u8 = 12;
 }
 
 #[derive(Default)]
@@ -33,6 +34,8 @@ pub struct Tape {
     pub calls: u64,
     /// How often each number was the answer.
     pub numbers: [u64; 18],
+    /// Audits: of an index that is not sound, and of one that is.
+    pub audits: [u64; 2],
     /// Something in the history is too large for the replay's arrays.
     pub unfit: bool,
     held: Option<Areas>,
@@ -193,6 +196,14 @@ impl Tape {
                 self.bytes.extend(word.to_le_bytes());
             }
         }
+        self.calls += 1;
+    }
+
+    /// An audit, which is accepted and stores nothing. The original has none: the value comes from its readings (`audit.rs`).
+    pub fn audit(&mut self, sound: bool) {
+        self.bytes.push(step::AUDIT);
+        self.answer(0, u64::from(sound));
+        self.audits[usize::from(sound)] += 1;
         self.calls += 1;
     }
 }

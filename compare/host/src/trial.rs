@@ -276,7 +276,6 @@ impl<'a> Trial<'a> {
         if buffer != [GARBAGE; 8] {
             return Err("read: the port stored answers and gave 6".into());
         }
-        #[cfg(audit)]
         self.not_the_originals("audit without an opening", port::audit(self.kind, &mine), 6, &mine)?;
         self.tally.note(self.kind, call.what(), 6);
         Ok(())
@@ -309,6 +308,7 @@ impl<'a> Trial<'a> {
             self.not_the_originals("an area under 16 bytes", answer, 1, &mine)?;
             self.tally.note(self.kind, what, 1);
         }
+        self.not_the_originals("audit of an area under 16 bytes", port::audit(self.kind, &mine), 1, &mine)?;
         if buffer != [GARBAGE; 6] {
             return Err("read: the port stored answers and gave 1".into());
         }

@@ -6,10 +6,10 @@ use host::tally::Tally;
 use host::tape::Tape;
 use host::{history, named};
 
-/// Bytes of the whole file, and of one history.
-const MOST: usize = 160_000;
+/// Bytes of the whole file, for which the replay has room for 200,000, and of one history.
+const MOST: usize = 180_000;
 const MOST_OF_ONE: usize = 1_600;
-/// So often each number of the original's is to come, if the histories have it.
+/// So often each number of the original's and an audit of unsound areas are to come, if the histories have them.
 const OF_EACH: u64 = 12;
 
 struct Sample {
@@ -17,6 +17,7 @@ struct Sample {
     cases: u64,
     answers: u64,
     numbers: [[u64; 18]; 2],
+    audits: [[u64; 2]; 2],
 }
 
 impl Sample {
@@ -28,11 +29,13 @@ impl Sample {
         self.cases += 1;
         self.answers += tape.calls;
         self.numbers[kind as usize].iter_mut().zip(tape.numbers).for_each(|(sum, n)| *sum += n);
+        self.audits[kind as usize].iter_mut().zip(tape.audits).for_each(|(sum, n)| *sum += n);
     }
 
-    /// Whether the tape has a refusal that the sample lacks.
+    /// Whether the tape has a refusal, or an audit of unsound areas, that the sample lacks.
     fn lacks(&self, kind: Kind, tape: &Tape) -> bool {
         (1..18).any(|n| tape.numbers[n] > 0 && self.numbers[kind as usize][n] < OF_EACH)
+            || tape.audits[0] > 0 && self.audits[kind as usize][0] < OF_EACH
     }
 }
 
@@ -43,7 +46,7 @@ fn main() {
     };
     let folder = Folder::new();
     let mut tally = Tally::default();
-    let mut sample = Sample { bytes: Vec::new(), cases: 0, answers: 0, numbers: [[0; 18]; 2] };
+    let mut sample = Sample { bytes: Vec::new(), cases: 0, answers: 0, numbers: [[0; 18]; 2], audits: [[0; 2]; 2] };
     named::run(&folder, &mut tally, true, &mut |kind, tape| sample.take(kind, &tape))
         .expect("no difference in a named case");
     // first the refusals, of which few come by chance, then whatever comes
@@ -64,6 +67,7 @@ fn main() {
     for kind in [Kind::Paired, Kind::Single] {
         let list = sample.numbers[kind as usize];
         let list: Vec<String> = (0..18).filter(|&n| list[n] > 0).map(|n| format!("{n}: {}", list[n])).collect();
-        println!("numbers, {}: {}", kind.name(), list.join(", "));
+        let [unsound, sound] = sample.audits[kind as usize];
+        println!("numbers, {}: {}; audits: {sound} of sound and {unsound} of unsound areas", kind.name(), list.join(", "));
     }
 }
