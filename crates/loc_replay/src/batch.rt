@@ -49,7 +49,7 @@ fn put_run(
     plus(from, n)
 }
 
-// So many runs: the place on the tape after them.
+// So many runs, from a place on the tape on.
 pub fn put_runs(
     data: &[u8],
     at: usize,
@@ -58,7 +58,7 @@ pub fn put_runs(
     lens: &mut [u64; 1200],
     span_starts: &mut [u64; 1200],
     span_counts: &mut [u32; 1200],
-) -> usize {
+) {
     let mut here = at;
     let mut to = 0;
     let mut i = 0;
@@ -67,5 +67,4 @@ pub fn put_runs(
         here = plus(here, 30);
         i += 1;
     }
-    here
 }

@@ -19,6 +19,10 @@ pub fn eight_times(n: usize) -> usize {
     if n < 0x1_0000 { 8 * n } else { 0 }
 }
 
+pub fn thirty_times(n: usize) -> usize {
+    if n < 0x1_0000 { 30 * n } else { 0 }
+}
+
 pub fn more(n: u64) -> u64 {
     if n < 0xffff_ffff { n + 1 } else { n }
 }

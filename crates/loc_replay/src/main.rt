@@ -1,7 +1,8 @@
-// Replays a sample of the original's answers, the file `answers`, which compare/sample.sh writes with the original itself.
-// Prints how many answers were replayed, and in how many a number, a value, an answer word or a byte of an area differs.
+// Replays a sample of the original's answers, the file `answers`, which compare/sample.sh writes with the original itself, and
+// prints how many differ. The original has no audit: the values of audits are worked out from its readings of every record.
 mod batch;
 mod bytes;
+mod call;
 mod calls;
 mod lists;
 mod reading;

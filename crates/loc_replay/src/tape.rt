@@ -1,6 +1,5 @@
 // The tape's steps. `expected` has all three areas as the original left them, slots at 0, rows at 4,224, checkpoints at 6,272.
 // A call is made on copies of them; the bytes that it has to leave come next, and then a step that compares.
-use crate::batch::put_runs;
 use crate::bytes::copied;
 use crate::bytes::copy;
 use crate::bytes::eight_times;
@@ -10,10 +9,11 @@ use crate::bytes::more;
 use crate::bytes::part;
 use crate::bytes::plus;
 use crate::bytes::same;
-use crate::calls;
-use crate::lists::first_counts;
-use crate::lists::first_words;
-use crate::reading;
+use crate::bytes::thirty_times;
+use crate::call::call;
+use crate::lists::part_words;
+use crate::reading::as_told;
+use crate::reading::words;
 use loc_leaf::Answer;
 use loc_leaf::Kind;
 use loc_leaf::file::byte_at;
@@ -110,135 +110,73 @@ fn check(s: State, expected: &[u8; 6400], left: &[u8; 6400]) -> State {
     told(s, at, s.answers, same(expected, left, 6272, s.checkpoints))
 }
 
-// Number and value at a place of the tape.
-fn agrees(data: &[u8], at: usize, answer: Answer) -> bool {
+// Where the arguments of a call end: there the tape has what it has to answer.
+fn arguments_end(data: &[u8], at: usize) -> usize {
+    let code = byte_at(data, at);
+    match code {
+        8 => plus(at, 2),
+        9 => plus(plus(at, 8), thirty_times(half(data, plus(at, 6)))),
+        10 => plus(at, 10),
+        11 => plus(
+            plus(at, 2),
+            eight_times(byte_at(data, plus(at, 1)) as usize),
+        ),
+        _ => plus(at, 1),
+    }
+}
+
+// How many words of answers the tape has: none where the call is no reading, or was refused.
+fn words_told(kind: Kind, data: &[u8], at: usize, end: usize) -> usize {
+    if byte_at(data, at) != 11 {
+        return 0;
+    }
+    if byte_at(data, end) != 0 {
+        return 0;
+    }
+    words(kind, byte_at(data, plus(at, 1)) as usize)
+}
+
+// Whether number, value and words are what the tape has. Words are handed on as an array, whose length is in its type.
+fn agrees(data: &[u8], at: usize, told: usize, answer: Answer, answers: &[u64; 386]) -> bool {
     if answer.number != byte_at(data, at) as u64 {
         return false;
     }
-    answer.value == u64_at(data, plus(at, 1))
-}
-
-fn answered(data: &[u8], s: State, at: usize, answer: Answer) -> State {
-    told(s, plus(at, 9), more(s.answers), agrees(data, at, answer))
-}
-
-// The lists are handed on as arrays: their lengths are in their types, whatever was stored in them.
-fn append_lists(
-    data: &[u8],
-    s: State,
-    at: usize,
-    slots: &mut [u8],
-    rows: &mut [u8],
-    checkpoints: &mut [u8],
-    starts: &[u64; 1200],
-    lens: &[u64; 1200],
-    span_starts: &[u64; 1200],
-    span_counts: &[u32; 1200],
-) -> State {
-    let n = half(data, plus(s.at, 2));
-    let m = half(data, plus(s.at, 4));
-    let answer = calls::append(
-        kind_of(s.kind),
-        slots,
-        rows,
-        checkpoints,
-        first_words(starts, n),
-        first_words(lens, m),
-        first_words(span_starts, n),
-        first_counts(span_counts, n),
-        byte_at(data, plus(s.at, 1)),
-    );
-    answered(data, s, at, answer)
-}
-
-// 9: places, how many records, how many lengths, how many runs; the runs.
-fn append(
-    data: &[u8],
-    s: State,
-    slots: &mut [u8],
-    rows: &mut [u8],
-    checkpoints: &mut [u8],
-) -> State {
-    let mut starts = [0u64; 1200];
-    let mut lens = [0u64; 1200];
-    let mut span_starts = [0u64; 1200];
-    let mut span_counts = [0u32; 1200];
-    let runs = half(data, plus(s.at, 6));
-    let at = put_runs(
-        data,
-        plus(s.at, 8),
-        runs,
-        &mut starts,
-        &mut lens,
-        &mut span_starts,
-        &mut span_counts,
-    );
-    append_lists(
-        data,
-        s,
-        at,
-        slots,
-        rows,
-        checkpoints,
-        &starts,
-        &lens,
-        &span_starts,
-        &span_counts,
-    )
-}
-
-// 11: a reading.
-fn read(data: &[u8], s: State, slots: &[u8], rows: &[u8], checkpoints: &[u8]) -> State {
-    let n = byte_at(data, plus(s.at, 1)) as usize;
-    let at = plus(s.at, 2);
-    let agree = reading::read(kind_of(s.kind), data, at, n, slots, rows, checkpoints);
-    let after = plus(at, eight_times(n));
-    let number = byte_at(data, after);
-    let words = reading::told(kind_of(s.kind), n, number);
-    let next = plus(plus(after, 9), eight_times(words));
-    told(s, next, more(s.answers), agree)
-}
-
-// 7 to 11: a call on the lent areas.
-fn call(data: &[u8], s: State, slots: &mut [u8], rows: &mut [u8], checkpoints: &mut [u8]) -> State {
-    let at = s.at;
-    let code = byte_at(data, at);
-    let places = byte_at(data, plus(at, 1));
-    match code {
-        7 => {
-            let answer = calls::create(kind_of(s.kind), slots, rows, checkpoints);
-            answered(data, s, plus(at, 1), answer)
-        }
-        8 => {
-            let answer = calls::open(kind_of(s.kind), slots, rows, checkpoints, places);
-            answered(data, s, plus(at, 2), answer)
-        }
-        9 => append(data, s, slots, rows, checkpoints),
-        10 => {
-            let count = u64_at(data, plus(at, 2));
-            let answer = calls::truncate(kind_of(s.kind), slots, rows, checkpoints, count, places);
-            answered(data, s, plus(at, 10), answer)
-        }
-        11 => read(data, s, slots, rows, checkpoints),
-        _ => told(s, plus(at, 1), s.answers, false),
+    if answer.value != u64_at(data, plus(at, 1)) {
+        return false;
     }
+    as_told(data, plus(at, 9), told, answers)
 }
 
+// 7 to 12: a call on copies of the areas. The buffer has two words more than a reading asks for.
 fn call_on_copies(data: &[u8], s: State, expected: &[u8; 6400], left: &mut [u8; 6400]) -> State {
+    let at = s.at;
+    let kind = kind_of(s.kind);
     let mut slots = copied(expected, 0, 4224);
     let mut rows = copied(expected, 4224, 2048);
     let mut checkpoints = copied(expected, 6272, 128);
-    let after = call(
+    let mut answers = [7u64; 386];
+    let asked = words(kind, byte_at(data, plus(at, 1)) as usize);
+    let answer = call(
+        kind,
         data,
-        s,
+        at,
         part(&mut slots, s.slots),
         part(&mut rows, s.rows),
         part(&mut checkpoints, s.checkpoints),
+        part_words(&mut answers, plus(asked, 2)),
     );
     copy(&slots, 0, 4224, left, 0);
     copy(&rows, 0, 2048, left, 4224);
     copy(&checkpoints, 0, 128, left, 6272);
-    after
+    let end = arguments_end(data, at);
+    let told_words = words_told(kind, data, at, end);
+    let agree = agrees(data, end, told_words, answer, &answers);
+    told(
+        s,
+        plus(plus(end, 9), eight_times(told_words)),
+        more(s.answers),
+        agree,
+    )
 }
 
 fn step(

@@ -1,15 +1,14 @@
 -- `loc_replay::reading::as_told` meets its contract.
 use Prim.Native.Nat.{_-_, _≤_}
 use borrow.Author.Needs.{needs}
-use lib.ListN.{length}
 use Rattle.loc_replay.proofs.reading.as_told.Statement.{statement}
 use Rattle.loc_replay.proofs.reading.as_told.Tie as tie
 
 abbrev Inv-loop : tie.InvT-loop
-Inv-loop «data» at told answers i₀ i = i ≤ length answers
+Inv-loop «data» at told answers i₀ i = i ≤ 386
 
 abbrev μ-loop : tie.MeasureT-loop
-μ-loop «data» at told answers i₀ i = length answers - i
+μ-loop «data» at told answers i₀ i = 386 - i
 
 loop-holds : tie.Need-loop-holds Inv-loop μ-loop
 loop-holds c = search needs
@@ -26,8 +25,8 @@ u64-at-requires c κs = search needs
 mul-if2 : tie.Need-mul-if2 Inv-loop μ-loop
 mul-if2 c = search needs
 
-shared-slice-read-if2 : tie.Need-shared-slice-read-if2 Inv-loop μ-loop
-shared-slice-read-if2 c = search needs
+element-copy-out-if2 : tie.Need-element-copy-out-if2 Inv-loop μ-loop
+element-copy-out-if2 c = search needs
 
 returns : tie.Need-returns Inv-loop μ-loop
 returns c = search needs
@@ -55,7 +54,7 @@ as-told-spec =
     plus-requires
     u64-at-requires
     mul-if2
-    shared-slice-read-if2
+    element-copy-out-if2
     returns
     add-i
     loop-less

@@ -1,14 +1,14 @@
--- `loc_replay::reading::put_wanted` meets its contract.
+-- `loc_replay::reading::wanted` meets its contract.
 use Prim.Native.Nat.{_-_, _≤_}
 use borrow.Author.Needs.{needs}
-use Rattle.loc_replay.proofs.reading.put_wanted.Statement.{statement}
-use Rattle.loc_replay.proofs.reading.put_wanted.Tie as tie
+use Rattle.loc_replay.proofs.reading.wanted.Statement.{statement}
+use Rattle.loc_replay.proofs.reading.wanted.Tie as tie
 
 abbrev Inv-loop : tie.InvT-loop
-Inv-loop «data» at n wanted₀ i₀ wanted i = i ≤ n
+Inv-loop «data» at list₀ i₀ list i = i ≤ 64
 
 abbrev μ-loop : tie.MeasureT-loop
-μ-loop «data» at n wanted₀ i₀ wanted i = n - i
+μ-loop «data» at list₀ i₀ list i = 64 - i
 
 loop-holds : tie.Need-loop-holds Inv-loop μ-loop
 loop-holds c = search needs
@@ -22,11 +22,11 @@ plus-requires c κs = search needs
 u64-at-requires : tie.Need-u64-at-requires Inv-loop μ-loop
 u64-at-requires c κs = search needs
 
-mul-wanted : tie.Need-mul-wanted Inv-loop μ-loop
-mul-wanted c = search needs
+mul-list : tie.Need-mul-list Inv-loop μ-loop
+mul-list c = search needs
 
-element-write-wanted : tie.Need-element-write-wanted Inv-loop μ-loop
-element-write-wanted c = search needs
+array-write-list : tie.Need-array-write-list Inv-loop μ-loop
+array-write-list c = search needs
 
 add-i : tie.Need-add-i Inv-loop μ-loop
 add-i c = search needs
@@ -40,8 +40,8 @@ loop-again c = search needs
 returns : tie.Need-returns Inv-loop μ-loop
 returns c = search needs
 
-pub put-wanted-spec : {M : Type 1} → statement M
-put-wanted-spec =
+pub wanted-spec : {M : Type 1} → statement M
+wanted-spec =
     tie.close
     (tie.spec
     Inv-loop
@@ -50,8 +50,8 @@ put-wanted-spec =
     eight-times-requires
     plus-requires
     u64-at-requires
-    mul-wanted
-    element-write-wanted
+    mul-list
+    array-write-list
     add-i
     loop-less
     loop-again
