@@ -4,7 +4,6 @@ ghost use mathlib.Core.Path.{_≡_};
 ghost use Prim.Native.Nat.{min};
 ghost use Rattle.io.specs.Counts.{Counts};
 use crate::script::plus;
-use loc_leaf::Kind;
 use loc_leaf::file::logical_len;
 use loc_leaf::file::put_le;
 use loc_leaf::file::u64_at;
@@ -29,41 +28,15 @@ pub fn renew(w: &mut [u8; 2192], sizes: &[u64; 1040]) {
     start(w, CHECKPOINTS, sizes[2]);
 }
 
-// Another published length is stored.
-pub fn publish(w: &mut [u8; 2192], area: usize, len: u64) {
-    put_le(w, plus(area, 8), 8, len);
-}
-
-// The n lowest bytes of a value are published behind what is published.
-fn add(w: &mut [u8; 2192], area: usize, n: usize, value: u64) {
-    let end = u64_at(w, plus(area, 8));
-    if end < 2080 {
-        put_le(w, plus(area, end as usize), n, value);
-        put_le(w, plus(area, 8), 8, plus(end as usize, n) as u64);
-    }
-}
-
-pub fn add_slot(w: &mut [u8; 2192], slot: &[u64; 1040]) {
-    add(w, SLOTS, 1, slot[0]);
-    add(w, SLOTS, 1, slot[1]);
-}
-
-// Number, strides and, where paired, span count.
-pub fn add_row(w: &mut [u8; 2192], kind: Kind, row: &[u64; 1040]) {
-    add(w, ROWS, 8, row[0]);
-    add(w, ROWS, 4, row[1]);
-    match kind {
-        Kind::Paired => add(w, ROWS, 4, row[2]),
-        Kind::Single => {}
-    }
-}
-
-// Body end and, where paired, span end.
-pub fn add_checkpoint(w: &mut [u8; 2192], kind: Kind, ends: &[u64; 1040]) {
-    add(w, CHECKPOINTS, 8, ends[0]);
-    match kind {
-        Kind::Paired => add(w, CHECKPOINTS, 8, ends[1]),
-        Kind::Single => {}
+// Stores the published length that the first number says, and the others as bytes from 16 on.
+pub fn fill(w: &mut [u8; 2192], area: usize, list: &[u64; 1040], n: usize) {
+    put_le(w, plus(area, 8), 8, list[0]);
+    let mut i = 1;
+    while i < n {
+        if i < 1040 {
+            put_le(w, plus(plus(area, 15), i), 1, list[i]);
+        }
+        i += 1;
     }
 }
 

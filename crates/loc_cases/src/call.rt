@@ -13,8 +13,7 @@ use crate::batch::part_words;
 use crate::batch::span_counts;
 use crate::batch::starts_in;
 use crate::batch::whole_in;
-use crate::calls::paired;
-use crate::calls::single;
+use crate::calls;
 use loc_leaf::Answer;
 use loc_leaf::Kind;
 
@@ -29,6 +28,46 @@ fn wanted(list: &[u64], n: usize) -> &[u64] {
     &list[1..n]
 }
 
+fn append(
+    kind: Kind,
+    letter: u8,
+    places: u64,
+    list: &[u64; 1040],
+    n: usize,
+    slots: &mut [u8],
+    rows: &mut [u8],
+    checkpoints: &mut [u8],
+) -> Answer {
+    let k = starts_in(list, n);
+    let m = whole_in(list, n);
+    let starts = fields(list, n, 0);
+    let lens = fields(list, n, 1);
+    let span_starts = fields(list, n, 2);
+    let counts = span_counts(list, n);
+    match kind {
+        Kind::Paired => calls::append_paired(
+            letter,
+            places,
+            slots,
+            rows,
+            checkpoints,
+            first_words(&starts, k),
+            first_words(&lens, m),
+            first_words(&span_starts, m),
+            first_counts(&counts, m),
+        ),
+        Kind::Single => calls::append_single(
+            letter,
+            places,
+            slots,
+            rows,
+            checkpoints,
+            first_words(&starts, k),
+            first_words(&lens, m),
+        ),
+    }
+}
+
 // The call on areas that are lent.
 fn on_areas(
     kind: Kind,
@@ -41,39 +80,18 @@ fn on_areas(
     checkpoints: &mut [u8],
     answers: &mut [u64],
 ) -> Answer {
-    let k = starts_in(list, n);
-    let m = whole_in(list, n);
-    let starts = fields(list, n, 0);
-    let lens = fields(list, n, 1);
-    let span_starts = fields(list, n, 2);
-    let counts = span_counts(list, n);
-    match kind {
-        Kind::Paired => paired(
-            letter,
-            list[0],
-            places,
-            slots,
-            rows,
-            checkpoints,
-            first_words(&starts, k),
-            first_words(&lens, m),
-            first_words(&span_starts, m),
-            first_counts(&counts, m),
-            wanted(list, n),
-            answers,
-        ),
-        Kind::Single => single(
-            letter,
-            list[0],
-            places,
-            slots,
-            rows,
-            checkpoints,
-            first_words(&starts, k),
-            first_words(&lens, m),
-            wanted(list, n),
-            answers,
-        ),
+    match letter {
+        b'a' | b'A' => append(kind, letter, places, list, n, slots, rows, checkpoints),
+        b'r' => calls::read(kind, slots, rows, checkpoints, wanted(list, n), answers),
+        b'u' => calls::audit(kind, slots, rows, checkpoints),
+        _ => match kind {
+            Kind::Paired => {
+                calls::store_paired(letter, list[0], places, slots, rows, checkpoints)
+            }
+            Kind::Single => {
+                calls::store_single(letter, list[0], places, slots, rows, checkpoints)
+            }
+        },
     }
 }
 

@@ -1,12 +1,46 @@
 // The public calls on lent areas, each by its letter: an upper-case one is the run of a call at some of its places.
-// Every call is handed all lists; only an append looks at the batch, and only a reading at wanted numbers and answers.
+// Calls with the same arguments stand together.
 use loc_index::create_loc;
 use loc_index::delta_loc;
 use loc_leaf::Answer;
+use loc_leaf::Kind;
 
-pub fn paired(
+pub fn store_paired(
     letter: u8,
     count: u64,
+    places: u64,
+    slots: &mut [u8],
+    rows: &mut [u8],
+    checkpoints: &mut [u8],
+) -> Answer {
+    match letter {
+        b'c' => create_loc::create(slots, rows, checkpoints),
+        b'o' => create_loc::open(slots, rows, checkpoints),
+        b'O' => create_loc::open_run(slots, rows, checkpoints, places),
+        b't' => create_loc::truncate_to_count(slots, rows, checkpoints, count),
+        _ => create_loc::truncate_to_count_run(slots, rows, checkpoints, count, places),
+    }
+}
+
+pub fn store_single(
+    letter: u8,
+    count: u64,
+    places: u64,
+    slots: &mut [u8],
+    rows: &mut [u8],
+    checkpoints: &mut [u8],
+) -> Answer {
+    match letter {
+        b'c' => delta_loc::create(slots, rows, checkpoints),
+        b'o' => delta_loc::open(slots, rows, checkpoints),
+        b'O' => delta_loc::open_run(slots, rows, checkpoints, places),
+        b't' => delta_loc::truncate_to_count(slots, rows, checkpoints, count),
+        _ => delta_loc::truncate_to_count_run(slots, rows, checkpoints, count, places),
+    }
+}
+
+pub fn append_paired(
+    letter: u8,
     places: u64,
     slots: &mut [u8],
     rows: &mut [u8],
@@ -15,14 +49,9 @@ pub fn paired(
     lens: &[u64],
     span_starts: &[u64],
     span_counts: &[u32],
-    wanted: &[u64],
-    answers: &mut [u64],
 ) -> Answer {
-    match letter {
-        b'c' => create_loc::create(slots, rows, checkpoints),
-        b'o' => create_loc::open(slots, rows, checkpoints),
-        b'O' => create_loc::open_run(slots, rows, checkpoints, places),
-        b'a' => create_loc::append(
+    if letter == b'a' {
+        return create_loc::append(
             slots,
             rows,
             checkpoints,
@@ -30,45 +59,52 @@ pub fn paired(
             lens,
             span_starts,
             span_counts,
-        ),
-        b'A' => create_loc::append_run(
-            slots,
-            rows,
-            checkpoints,
-            starts,
-            lens,
-            span_starts,
-            span_counts,
-            places,
-        ),
-        b't' => create_loc::truncate_to_count(slots, rows, checkpoints, count),
-        b'T' => create_loc::truncate_to_count_run(slots, rows, checkpoints, count, places),
-        b'r' => create_loc::range_batch(slots, rows, checkpoints, wanted, answers),
-        _ => create_loc::audit(slots, rows, checkpoints),
+        );
     }
+    create_loc::append_run(
+        slots,
+        rows,
+        checkpoints,
+        starts,
+        lens,
+        span_starts,
+        span_counts,
+        places,
+    )
 }
 
-pub fn single(
+pub fn append_single(
     letter: u8,
-    count: u64,
     places: u64,
     slots: &mut [u8],
     rows: &mut [u8],
     checkpoints: &mut [u8],
     starts: &[u64],
     lens: &[u64],
+) -> Answer {
+    if letter == b'a' {
+        return delta_loc::append(slots, rows, checkpoints, starts, lens);
+    }
+    delta_loc::append_run(slots, rows, checkpoints, starts, lens, places)
+}
+
+pub fn read(
+    kind: Kind,
+    slots: &[u8],
+    rows: &[u8],
+    checkpoints: &[u8],
     wanted: &[u64],
     answers: &mut [u64],
 ) -> Answer {
-    match letter {
-        b'c' => delta_loc::create(slots, rows, checkpoints),
-        b'o' => delta_loc::open(slots, rows, checkpoints),
-        b'O' => delta_loc::open_run(slots, rows, checkpoints, places),
-        b'a' => delta_loc::append(slots, rows, checkpoints, starts, lens),
-        b'A' => delta_loc::append_run(slots, rows, checkpoints, starts, lens, places),
-        b't' => delta_loc::truncate_to_count(slots, rows, checkpoints, count),
-        b'T' => delta_loc::truncate_to_count_run(slots, rows, checkpoints, count, places),
-        b'r' => delta_loc::range_batch(slots, rows, checkpoints, wanted, answers),
-        _ => delta_loc::audit(slots, rows, checkpoints),
+    match kind {
+        Kind::Paired => create_loc::range_batch(slots, rows, checkpoints, wanted, answers),
+        Kind::Single => delta_loc::range_batch(slots, rows, checkpoints, wanted, answers),
+    }
+}
+
+pub fn audit(kind: Kind, slots: &[u8], rows: &[u8], checkpoints: &[u8]) -> Answer {
+    match kind {
+        Kind::Paired => create_loc::audit(slots, rows, checkpoints),
+        Kind::Single => delta_loc::audit(slots, rows, checkpoints),
     }
 }

@@ -8,8 +8,8 @@ use crate::areas::counted;
 use crate::call::call;
 use crate::print;
 use crate::script::Line;
+use crate::script::found;
 use crate::script::line_at;
-use crate::script::line_end;
 use crate::script::plus;
 use crate::script::put_numbers;
 use loc_leaf::Answer;
@@ -53,36 +53,22 @@ fn untouched(answers: &[u64; 32]) -> bool {
     true
 }
 
-// make: the call alone.
-fn make(line: Line, kind: Kind, list: &[u64; 1040], n: usize, w: &mut [u8; 2192]) {
-    call(kind, letter_of(line), 0, list, n, w, &mut [9; 32]);
-}
-
-// kept: number, value, and whether every byte of the areas and every word of the buffer stayed as it was.
-fn kept(text: &[u8], line: Line, kind: Kind, list: &[u64; 1040], n: usize, w: &mut [u8; 2192]) {
+// make: the call alone. kept: number, value, and whether every byte of the areas and every word of the buffer stayed as it
+// was. answer: number, value, and every word of a reading's buffer.
+fn one(text: &[u8], line: Line, kind: Kind, list: &[u64; 1040], n: usize, w: &mut [u8; 2192]) {
+    let letter = letter_of(line);
     let before = *w;
     let mut answers = [9u64; 32];
-    let answer = call(kind, letter_of(line), 0, list, n, w, &mut answers);
-    print::kind(kind);
-    print::words(text, line.words, line.numbers);
-    print::answer(answer);
-    if untouched(&answers) {
-        print::kept(areas::same(&before, w));
-    } else {
-        print::kept(false);
-    }
-    print::end();
-}
-
-// answer: number, value, and every word of a reading's buffer.
-fn answer(text: &[u8], line: Line, kind: Kind, list: &[u64; 1040], n: usize, w: &mut [u8; 2192]) {
-    let letter = letter_of(line);
-    let mut answers = [9u64; 32];
     let answer = call(kind, letter, 0, list, n, w, &mut answers);
+    if line.command == b'm' {
+        return;
+    }
     print::kind(kind);
     print::words(text, line.words, line.numbers);
     print::answer(answer);
-    if letter == b'r' {
+    if line.command == b'k' {
+        print::kept(areas::same(&before, w) && untouched(&answers));
+    } else if letter == b'r' {
         print::numbers(&answers, 0, list[0] as usize);
     }
     print::end();
@@ -150,27 +136,15 @@ fn torn(text: &[u8], line: Line, kind: Kind, list: &[u64; 1040], n: usize, w: &[
     }
 }
 
-// publish: another stored length, of the area whose name begins with a letter.
-fn publish(area: u8, w: &mut [u8; 2192], len: u64) {
-    match area {
-        b's' => areas::publish(w, SLOTS, len),
-        b'r' => areas::publish(w, ROWS, len),
-        _ => areas::publish(w, CHECKPOINTS, len),
-    }
-}
-
-// Commands that change the areas by hand, then those that make a call. Any other prints its line.
+// Commands that change the areas by hand, then those that make a call. Any other prints its words.
 fn step(text: &[u8], line: Line, kind: Kind, list: &[u64; 1040], n: usize, w: &mut [u8; 2192]) {
     let command = line.command;
     match command {
         b'n' => areas::renew(w, list),
-        b's' => areas::add_slot(w, list),
-        b'r' => areas::add_row(w, kind, list),
-        b'c' => areas::add_checkpoint(w, kind, list),
-        b'p' => publish(line.first, w, list[0]),
-        b'm' => make(line, kind, list, n, w),
-        b'k' => kept(text, line, kind, list, n, w),
-        b'a' => answer(text, line, kind, list, n, w),
+        b's' => areas::fill(w, SLOTS, list, n),
+        b'r' => areas::fill(w, ROWS, list, n),
+        b'c' => areas::fill(w, CHECKPOINTS, list, n),
+        b'm' | b'k' | b'a' => one(text, line, kind, list, n, w),
         b'l' => list_two(kind, list, n, w),
         b't' => torn(text, line, kind, list, n, w),
         _ => {
@@ -196,7 +170,7 @@ fn section(text: &[u8], from: usize, kind: Kind) -> usize {
     let mut lines: u64 = 0;
     while lines < 1000 {
         let first = byte_at(text, at);
-        let next = plus(line_end(text, at), 1);
+        let next = plus(found(text, at, b'\n'), 1);
         if first == b'=' || first == 0 {
             return next;
         }

@@ -1,8 +1,9 @@
-// The script's text. A line: for which kinds, a command, the words of a case, numbers; words and numbers after one space each.
-// 0*1025 stands for 1,025 zeros. What lies past the text's end reads as 0, which ends a line as a line feed does.
+// The script's text. A line: for which kinds, a command, the words of a case, numbers; each after one space.
+// Lines end with a line feed.
 use loc_leaf::file::byte_at;
 
-// Places in the text: where the case's words begin, with the space before them, and end; its first and second letters.
+// The command's first letter, the first two letters of the case's words, and where the words begin, with the space before
+// them, and end.
 pub struct Line {
     pub command: u8,
     pub first: u8,
@@ -20,13 +21,6 @@ pub fn plus(a: usize, b: usize) -> usize {
     0
 }
 
-fn is_end(byte: u8) -> bool {
-    match byte {
-        0 | b'\n' => true,
-        _ => false,
-    }
-}
-
 fn is_digit(byte: u8) -> bool {
     match byte {
         b'0'..=b'9' => true,
@@ -35,13 +29,11 @@ fn is_digit(byte: u8) -> bool {
 }
 
 // Where a byte stands, at the latest where the line ends.
-fn found(text: &[u8], from: usize, byte: u8) -> usize {
+pub fn found(text: &[u8], from: usize, byte: u8) -> usize {
     let mut at = from;
     while at < text.len() {
-        if text[at] == byte {
-            return at;
-        }
-        if is_end(text[at]) {
+        let here = text[at];
+        if here == byte || here == b'\n' {
             return at;
         }
         at += 1;
@@ -49,21 +41,16 @@ fn found(text: &[u8], from: usize, byte: u8) -> usize {
     at
 }
 
-pub fn line_end(text: &[u8], from: usize) -> usize {
-    found(text, from, b'\n')
-}
-
 // Where the words end: before the first digit that follows a space, or with the line.
 fn words_end(text: &[u8], from: usize) -> usize {
     let mut at = from;
     while at < text.len() {
-        if is_end(text[at]) {
+        let here = text[at];
+        if here == b'\n' {
             return at;
         }
-        if text[at] == b' ' {
-            if is_digit(byte_at(text, plus(at, 1))) {
-                return at;
-            }
+        if here == b' ' && is_digit(byte_at(text, plus(at, 1))) {
+            return at;
         }
         at += 1;
     }
@@ -96,64 +83,28 @@ fn with_digit(n: u64, digit: u8) -> u64 {
     }
 }
 
-// The number whose digits begin at a place.
-fn number_at(text: &[u8], from: usize) -> u64 {
-    let mut n = 0;
-    let mut at = from;
-    while at < text.len() {
-        if !is_digit(text[at]) {
-            return n;
-        }
-        n = with_digit(n, text[at]);
-        at += 1;
-    }
-    n
-}
-
-fn number_end(text: &[u8], from: usize) -> usize {
-    let mut at = from;
-    while at < text.len() {
-        if !is_digit(text[at]) {
-            return at;
-        }
-        at += 1;
-    }
-    at
-}
-
-// One number so many times, as far as the list reaches: where the next one goes.
-fn put(list: &mut [u64; 1040], from: usize, number: u64, times: u64) -> usize {
-    let mut at = from;
-    let mut left = times;
-    while 0 < left {
-        if 1040 <= at {
-            return at;
-        }
-        list[at] = number;
-        at += 1;
-        left -= 1;
-    }
-    at
-}
-
-// A line's numbers, from the space before the first: how many.
+// A line's numbers, from the space before the first: how many. Those past the list's end are left out.
 pub fn put_numbers(text: &[u8], from: usize, list: &mut [u64; 1040]) -> usize {
-    let mut at = from;
+    let mut number = 0;
     let mut n = 0;
-    let mut turns: u64 = 0;
-    while turns < 1040 {
-        if byte_at(text, at) != b' ' {
+    let mut at = from;
+    while at < text.len() {
+        let here = text[at];
+        if here == b' ' {
+            number = 0;
+            n = plus(n, 1);
+        } else {
+            number = with_digit(number, here);
+        }
+        if here == b'\n' {
             return n;
         }
-        let number = number_at(text, plus(at, 1));
-        at = number_end(text, plus(at, 1));
-        let mut times = 1;
-        if byte_at(text, at) == b'*' {
-            times = number_at(text, plus(at, 1));
-            at = number_end(text, plus(at, 1));
+        if 0 < n {
+            if n <= 1040 {
+                list[n - 1] = number;
+            }
         }
-        n = put(list, n, number, times);
-        turns += 1;
+        at += 1;
     }
     n
 }

@@ -16,8 +16,8 @@ loop-holds c = search needs
 byte-at-requires : tie.Need-byte-at-requires Inv-loop μ-loop
 byte-at-requires c κs = search needs
 
-line-end-requires : tie.Need-line-end-requires Inv-loop μ-loop
-line-end-requires c κs = search needs
+found-requires : tie.Need-found-requires Inv-loop μ-loop
+found-requires c κs = search needs
 
 plus-requires : tie.Need-plus-requires Inv-loop μ-loop
 plus-requires c κs = search needs
@@ -57,7 +57,7 @@ section-spec =
     μ-loop
     loop-holds
     byte-at-requires
-    line-end-requires
+    found-requires
     plus-requires
     returns
     meant-requires

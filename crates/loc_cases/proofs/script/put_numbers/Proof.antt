@@ -1,56 +1,42 @@
 -- `loc_cases::script::put_numbers` meets its contract.
 use Prim.Native.Nat.{_-_, _≤_}
+use lib.ListN.{length}
 use borrow.Author.Needs.{needs}
 use Rattle.loc_cases.proofs.script.put_numbers.Statement.{statement}
 use Rattle.loc_cases.proofs.script.put_numbers.Tie as tie
 
 abbrev Inv-loop : tie.InvT-loop
-Inv-loop text from list₀ at₀ n₀ turns₀ list at n turns = turns ≤ 1040
+Inv-loop text from list₀ number₀ n₀ at₀ list number n at = from ≤ at
 
 abbrev μ-loop : tie.MeasureT-loop
-μ-loop text from list₀ at₀ n₀ turns₀ list at n turns = 1040 - turns
+μ-loop text from list₀ number₀ n₀ at₀ list number n at = length text - at
 
 loop-holds : tie.Need-loop-holds Inv-loop μ-loop
 loop-holds c = search needs
 
-byte-at-requires : tie.Need-byte-at-requires Inv-loop μ-loop
-byte-at-requires c κs = search needs
-
-returns : tie.Need-returns Inv-loop μ-loop
-returns c = search needs
+shared-slice-read-here : tie.Need-shared-slice-read-here Inv-loop μ-loop
+shared-slice-read-here c = search needs
 
 plus-requires : tie.Need-plus-requires Inv-loop μ-loop
 plus-requires c κs = search needs
 
-number-at-requires : tie.Need-number-at-requires Inv-loop μ-loop
-number-at-requires c κs = search needs
+with-digit-requires : tie.Need-with-digit-requires Inv-loop μ-loop
+with-digit-requires c κs = search needs
 
-plus-requires-2 : tie.Need-plus-requires-2 Inv-loop μ-loop
-plus-requires-2 c κs = search needs
+returns : tie.Need-returns Inv-loop μ-loop
+returns c = search needs
 
-number-end-requires : tie.Need-number-end-requires Inv-loop μ-loop
-number-end-requires c κs = search needs
+sub-list : tie.Need-sub-list Inv-loop μ-loop
+sub-list c = search needs
 
-byte-at-requires-2 : tie.Need-byte-at-requires-2 Inv-loop μ-loop
-byte-at-requires-2 c κs = search needs
+mul-list : tie.Need-mul-list Inv-loop μ-loop
+mul-list c = search needs
 
-plus-requires-3 : tie.Need-plus-requires-3 Inv-loop μ-loop
-plus-requires-3 c κs = search needs
+element-write-list : tie.Need-element-write-list Inv-loop μ-loop
+element-write-list c = search needs
 
-number-at-requires-2 : tie.Need-number-at-requires-2 Inv-loop μ-loop
-number-at-requires-2 c κs = search needs
-
-plus-requires-4 : tie.Need-plus-requires-4 Inv-loop μ-loop
-plus-requires-4 c κs = search needs
-
-number-end-requires-2 : tie.Need-number-end-requires-2 Inv-loop μ-loop
-number-end-requires-2 c κs = search needs
-
-put-requires : tie.Need-put-requires Inv-loop μ-loop
-put-requires c κs = search needs
-
-add-turns : tie.Need-add-turns Inv-loop μ-loop
-add-turns c = search needs
+add-at : tie.Need-add-at Inv-loop μ-loop
+add-at c = search needs
 
 loop-less : tie.Need-loop-less Inv-loop μ-loop
 loop-less c = search needs
@@ -68,19 +54,14 @@ put-numbers-spec =
     Inv-loop
     μ-loop
     loop-holds
-    byte-at-requires
-    returns
+    shared-slice-read-here
     plus-requires
-    number-at-requires
-    plus-requires-2
-    number-end-requires
-    byte-at-requires-2
-    plus-requires-3
-    number-at-requires-2
-    plus-requires-4
-    number-end-requires-2
-    put-requires
-    add-turns
+    with-digit-requires
+    returns
+    sub-list
+    mul-list
+    element-write-list
+    add-at
     loop-less
     loop-again
     returns-2)

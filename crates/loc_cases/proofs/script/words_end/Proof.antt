@@ -14,17 +14,11 @@ abbrev μ-loop : tie.MeasureT-loop
 loop-holds : tie.Need-loop-holds Inv-loop μ-loop
 loop-holds c = search needs
 
-shared-slice-read-is-end : tie.Need-shared-slice-read-is-end Inv-loop μ-loop
-shared-slice-read-is-end c = search needs
-
-is-end-requires : tie.Need-is-end-requires Inv-loop μ-loop
-is-end-requires c κs = search needs
+shared-slice-read-here : tie.Need-shared-slice-read-here Inv-loop μ-loop
+shared-slice-read-here c = search needs
 
 returns : tie.Need-returns Inv-loop μ-loop
 returns c = search needs
-
-shared-slice-read-if2 : tie.Need-shared-slice-read-if2 Inv-loop μ-loop
-shared-slice-read-if2 c = search needs
 
 plus-requires : tie.Need-plus-requires Inv-loop μ-loop
 plus-requires c κs = search needs
@@ -57,10 +51,8 @@ words-end-spec =
     Inv-loop
     μ-loop
     loop-holds
-    shared-slice-read-is-end
-    is-end-requires
+    shared-slice-read-here
     returns
-    shared-slice-read-if2
     plus-requires
     byte-at-requires
     is-digit-requires
