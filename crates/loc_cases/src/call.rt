@@ -44,28 +44,18 @@ fn append(
     let lens = fields(list, n, 1);
     let span_starts = fields(list, n, 2);
     let counts = span_counts(list, n);
-    match kind {
-        Kind::Paired => calls::append_paired(
-            letter,
-            places,
-            slots,
-            rows,
-            checkpoints,
-            first_words(&starts, k),
-            first_words(&lens, m),
-            first_words(&span_starts, m),
-            first_counts(&counts, m),
-        ),
-        Kind::Single => calls::append_single(
-            letter,
-            places,
-            slots,
-            rows,
-            checkpoints,
-            first_words(&starts, k),
-            first_words(&lens, m),
-        ),
-    }
+    calls::append(
+        kind,
+        letter,
+        places,
+        slots,
+        rows,
+        checkpoints,
+        first_words(&starts, k),
+        first_words(&lens, m),
+        first_words(&span_starts, m),
+        first_counts(&counts, m),
+    )
 }
 
 // The call on areas that are lent.
@@ -84,14 +74,7 @@ fn on_areas(
         b'a' | b'A' => append(kind, letter, places, list, n, slots, rows, checkpoints),
         b'r' => calls::read(kind, slots, rows, checkpoints, wanted(list, n), answers),
         b'u' => calls::audit(kind, slots, rows, checkpoints),
-        _ => match kind {
-            Kind::Paired => {
-                calls::store_paired(letter, list[0], places, slots, rows, checkpoints)
-            }
-            Kind::Single => {
-                calls::store_single(letter, list[0], places, slots, rows, checkpoints)
-            }
-        },
+        _ => calls::store(kind, letter, list[0], places, slots, rows, checkpoints),
     }
 }
 

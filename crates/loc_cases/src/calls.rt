@@ -5,7 +5,8 @@ use loc_index::delta_loc;
 use loc_leaf::Answer;
 use loc_leaf::Kind;
 
-pub fn store_paired(
+pub fn store(
+    kind: Kind,
     letter: u8,
     count: u64,
     places: u64,
@@ -13,33 +14,27 @@ pub fn store_paired(
     rows: &mut [u8],
     checkpoints: &mut [u8],
 ) -> Answer {
-    match letter {
-        b'c' => create_loc::create(slots, rows, checkpoints),
-        b'o' => create_loc::open(slots, rows, checkpoints),
-        b'O' => create_loc::open_run(slots, rows, checkpoints, places),
-        b't' => create_loc::truncate_to_count(slots, rows, checkpoints, count),
-        _ => create_loc::truncate_to_count_run(slots, rows, checkpoints, count, places),
+    match kind {
+        Kind::Paired => match letter {
+            b'c' => create_loc::create(slots, rows, checkpoints),
+            b'o' => create_loc::open(slots, rows, checkpoints),
+            b'O' => create_loc::open_run(slots, rows, checkpoints, places),
+            b't' => create_loc::truncate_to_count(slots, rows, checkpoints, count),
+            _ => create_loc::truncate_to_count_run(slots, rows, checkpoints, count, places),
+        },
+        Kind::Single => match letter {
+            b'c' => delta_loc::create(slots, rows, checkpoints),
+            b'o' => delta_loc::open(slots, rows, checkpoints),
+            b'O' => delta_loc::open_run(slots, rows, checkpoints, places),
+            b't' => delta_loc::truncate_to_count(slots, rows, checkpoints, count),
+            _ => delta_loc::truncate_to_count_run(slots, rows, checkpoints, count, places),
+        },
     }
 }
 
-pub fn store_single(
-    letter: u8,
-    count: u64,
-    places: u64,
-    slots: &mut [u8],
-    rows: &mut [u8],
-    checkpoints: &mut [u8],
-) -> Answer {
-    match letter {
-        b'c' => delta_loc::create(slots, rows, checkpoints),
-        b'o' => delta_loc::open(slots, rows, checkpoints),
-        b'O' => delta_loc::open_run(slots, rows, checkpoints, places),
-        b't' => delta_loc::truncate_to_count(slots, rows, checkpoints, count),
-        _ => delta_loc::truncate_to_count_run(slots, rows, checkpoints, count, places),
-    }
-}
-
-pub fn append_paired(
+// Only the paired kind has spans.
+pub fn append(
+    kind: Kind,
     letter: u8,
     places: u64,
     slots: &mut [u8],
@@ -50,42 +45,33 @@ pub fn append_paired(
     span_starts: &[u64],
     span_counts: &[u32],
 ) -> Answer {
-    if letter == b'a' {
-        return create_loc::append(
-            slots,
-            rows,
-            checkpoints,
-            starts,
-            lens,
-            span_starts,
-            span_counts,
-        );
+    match kind {
+        Kind::Paired => match letter {
+            b'a' => create_loc::append(
+                slots,
+                rows,
+                checkpoints,
+                starts,
+                lens,
+                span_starts,
+                span_counts,
+            ),
+            _ => create_loc::append_run(
+                slots,
+                rows,
+                checkpoints,
+                starts,
+                lens,
+                span_starts,
+                span_counts,
+                places,
+            ),
+        },
+        Kind::Single => match letter {
+            b'a' => delta_loc::append(slots, rows, checkpoints, starts, lens),
+            _ => delta_loc::append_run(slots, rows, checkpoints, starts, lens, places),
+        },
     }
-    create_loc::append_run(
-        slots,
-        rows,
-        checkpoints,
-        starts,
-        lens,
-        span_starts,
-        span_counts,
-        places,
-    )
-}
-
-pub fn append_single(
-    letter: u8,
-    places: u64,
-    slots: &mut [u8],
-    rows: &mut [u8],
-    checkpoints: &mut [u8],
-    starts: &[u64],
-    lens: &[u64],
-) -> Answer {
-    if letter == b'a' {
-        return delta_loc::append(slots, rows, checkpoints, starts, lens);
-    }
-    delta_loc::append_run(slots, rows, checkpoints, starts, lens, places)
 }
 
 pub fn read(
