@@ -50,19 +50,21 @@ pub fn part(bytes: &mut [u8], size: usize) -> &mut [u8] {
 }
 
 // Whether n bytes from a place on are the same.
-pub fn same(a: &[u8], b: &[u8], at: usize, n: usize) -> bool {
+pub fn same(a: &[u8; 6400], b: &[u8; 6400], at: usize, n: usize) -> bool {
     let mut i = 0;
     while i < n {
         let place = plus(at, i);
-        if byte_at(a, place) != byte_at(b, place) {
-            return false;
+        if place < 6400 {
+            if a[place] != b[place] {
+                return false;
+            }
         }
         i += 1;
     }
     true
 }
 
-// n bytes from one place to another.
+// n bytes of the tape to a place.
 pub fn copy(from: &[u8], start: usize, n: usize, to: &mut [u8; 6400], at: usize) {
     let mut i = 0;
     while i < n {
@@ -74,11 +76,32 @@ pub fn copy(from: &[u8], start: usize, n: usize, to: &mut [u8; 6400], at: usize)
     }
 }
 
-// n bytes from a place on, in an array of their own.
-pub fn copied(from: &[u8], start: usize, n: usize) -> [u8; 6400] {
+// The bytes from a place on, in an array of their own.
+pub fn copied(from: &[u8; 6400], start: usize) -> [u8; 6400] {
     let mut to = [0u8; 6400];
-    copy(from, start, n, &mut to, 0);
+    let mut i = 0;
+    while i < 6400 {
+        let place = plus(start, i);
+        if place < 6400 {
+            to[i] = from[place];
+        }
+        i += 1;
+    }
     to
+}
+
+// n bytes of such an array back to a place.
+pub fn put_back(from: &[u8; 6400], n: usize, to: &mut [u8; 6400], at: usize) {
+    let mut i = 0;
+    while i < n {
+        let place = plus(at, i);
+        if i < 6400 {
+            if place < 6400 {
+                to[place] = from[i];
+            }
+        }
+        i += 1;
+    }
 }
 
 // Two bytes in turn, n of them.

@@ -8,6 +8,7 @@ use crate::bytes::half;
 use crate::bytes::more;
 use crate::bytes::part;
 use crate::bytes::plus;
+use crate::bytes::put_back;
 use crate::bytes::same;
 use crate::bytes::thirty_times;
 use crate::call::call;
@@ -147,36 +148,40 @@ fn agrees(data: &[u8], at: usize, told: usize, answer: Answer, answers: &[u64; 3
     as_told(data, plus(at, 9), told, answers)
 }
 
+// The state after the call at s.at, which gave this answer and these words.
+fn judged(data: &[u8], s: State, answer: Answer, answers: &[u64; 386]) -> State {
+    let end = arguments_end(data, s.at);
+    let n = words_told(kind_of(s.kind), data, s.at, end);
+    let agree = agrees(data, end, n, answer, answers);
+    told(
+        s,
+        plus(plus(end, 9), eight_times(n)),
+        more(s.answers),
+        agree,
+    )
+}
+
 // 7 to 12: a call on copies of the areas. The buffer has two words more than a reading asks for.
 fn call_on_copies(data: &[u8], s: State, expected: &[u8; 6400], left: &mut [u8; 6400]) -> State {
-    let at = s.at;
     let kind = kind_of(s.kind);
-    let mut slots = copied(expected, 0, 4224);
-    let mut rows = copied(expected, 4224, 2048);
-    let mut checkpoints = copied(expected, 6272, 128);
+    let mut slots = copied(expected, 0);
+    let mut rows = copied(expected, 4224);
+    let mut checkpoints = copied(expected, 6272);
     let mut answers = [7u64; 386];
-    let asked = words(kind, byte_at(data, plus(at, 1)) as usize);
+    let asked = words(kind, byte_at(data, plus(s.at, 1)) as usize);
     let answer = call(
         kind,
         data,
-        at,
+        s.at,
         part(&mut slots, s.slots),
         part(&mut rows, s.rows),
         part(&mut checkpoints, s.checkpoints),
         part_words(&mut answers, plus(asked, 2)),
     );
-    copy(&slots, 0, 4224, left, 0);
-    copy(&rows, 0, 2048, left, 4224);
-    copy(&checkpoints, 0, 128, left, 6272);
-    let end = arguments_end(data, at);
-    let told_words = words_told(kind, data, at, end);
-    let agree = agrees(data, end, told_words, answer, &answers);
-    told(
-        s,
-        plus(plus(end, 9), eight_times(told_words)),
-        more(s.answers),
-        agree,
-    )
+    put_back(&slots, 4224, left, 0);
+    put_back(&rows, 2048, left, 4224);
+    put_back(&checkpoints, 128, left, 6272);
+    judged(data, s, answer, &answers)
 }
 
 fn step(
@@ -193,11 +198,11 @@ fn step(
         2 => some_bytes(data, s, expected),
         3 => two_bytes(data, s, expected),
         4 => {
-            copy(expected, 0, 6400, kept, 0);
+            *kept = *expected;
             moved(s, plus(at, 1))
         }
         5 => {
-            copy(kept, 0, 6400, expected, 0);
+            *expected = *kept;
             moved(s, plus(at, 1))
         }
         6 => check(s, expected, left),
