@@ -8,6 +8,7 @@ mod lists;
 mod reading;
 mod tape;
 
+use crate::tape::State;
 use libc::STDOUT_FILENO;
 ghost use Rattle.io.specs.Counts.{Counts};
 
@@ -24,12 +25,15 @@ fn load(path: &[u8], buf: &mut [u8]) -> usize
     n
 }
 
-fn main() {
-    let mut data = [0u8; 200000];
-    let n = load(b"answers", &mut data);
-    let end = tape::replay(&data[..n]);
+fn print_end(end: State) {
     io::print_decimal(STDOUT_FILENO, end.answers);
     io::write_all(STDOUT_FILENO, b" answers of the original replayed, ");
     io::print_decimal(STDOUT_FILENO, end.differ);
     io::write_all(STDOUT_FILENO, b" differ\n");
+}
+
+fn main() {
+    let mut data = [0u8; 200000];
+    let n = load(b"answers", &mut data);
+    print_end(tape::replay(&data[..n]));
 }
