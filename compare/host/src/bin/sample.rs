@@ -68,6 +68,10 @@ fn main() {
         let list = sample.numbers[kind as usize];
         let list: Vec<String> = (0..18).filter(|&n| list[n] > 0).map(|n| format!("{n}: {}", list[n])).collect();
         let [unsound, sound] = sample.audits[kind as usize];
-        println!("numbers, {}: {}; audits: {sound} of sound and {unsound} of unsound areas", kind.name(), list.join(", "));
+        println!(
+            "numbers, {}: {}; audits: {sound} of sound and {unsound} of unsound areas",
+            kind.name(),
+            list.join(", ")
+        );
     }
 }
