@@ -1,12 +1,11 @@
 // Three areas in one array, so that a case can keep a copy: slots from 0 on, rows from 2,080, checkpoints from 2,144.
 // Bytes 0 to 7 of an area, which no call reads or writes, hold its size.
-ghost use mathlib.Core.Path.{_≡_};
-ghost use Prim.Native.Nat.{min};
-ghost use Rattle.io.specs.Counts.{Counts};
-use crate::script::plus;
 use loc_leaf::file::logical_len;
 use loc_leaf::file::put_le;
 use loc_leaf::file::u64_at;
+use loc_lent::parts::first_bytes;
+use loc_lent::parts::part;
+use loc_lent::parts::plus;
 
 pub const SLOTS: usize = 0;
 
@@ -40,24 +39,10 @@ pub fn fill(w: &mut [u8; 2192], area: usize, list: &[u64; 1040], n: usize) {
     }
 }
 
-pub fn least(a: usize, b: usize) -> usize
-    ensures { λ r. ⌜ r ≡ min a b ⌝ }
-{
-    if a < b { a } else { b }
-}
-
-// The size, or all of the bytes where there are fewer.
-fn fitting(bytes: &[u8]) -> usize
-    ensures { λ r. ⌜ Counts r (now (bytes .entry)) ⌝ }
-{
-    let size = u64_at(bytes, 0) as usize;
-    least(size, bytes.len())
-}
-
 // The area that a call is lent: as many of the bytes as its size says.
-pub fn part(bytes: &mut [u8]) -> &mut [u8] {
-    let n = fitting(bytes);
-    &mut bytes[..n]
+pub fn lent(bytes: &mut [u8]) -> &mut [u8] {
+    let size = u64_at(bytes, 0) as usize;
+    part(bytes, size)
 }
 
 // The bytes from an area's first on.
@@ -89,8 +74,8 @@ pub fn put_back(w: &mut [u8; 2192], area: usize, n: usize, bytes: &[u8; 2080]) {
 }
 
 fn counted_in(bytes: &[u8]) -> u64 {
-    let n = fitting(bytes);
-    logical_len(&bytes[..n]) as u64
+    let size = u64_at(bytes, 0) as usize;
+    logical_len(first_bytes(bytes, size)) as u64
 }
 
 // The published length as it counts.

@@ -1,7 +1,5 @@
 // The batch that a line's numbers spell: start, length, span start and span count of each record.
 // One number alone is a count: so many records of 8 bytes with 1 span from 16 on. A start that is left over has no length.
-ghost use Rattle.io.specs.Counts.{Counts};
-use crate::areas::least;
 
 fn number(list: &[u64; 1040], at: usize) -> u64 {
     if at < 1040 { list[at] } else { 0 }
@@ -55,32 +53,4 @@ pub fn span_counts(list: &[u64; 1040], n: usize) -> [u32; 1030] {
         i += 1;
     }
     column
-}
-
-fn fitting_words(n: usize, list: &[u64]) -> usize
-    ensures { λ r. ⌜ Counts r (now (list .entry)) ⌝ }
-{
-    least(n, list.len())
-}
-
-fn fitting_counts(n: usize, list: &[u32]) -> usize
-    ensures { λ r. ⌜ Counts r (now (list .entry)) ⌝ }
-{
-    least(n, list.len())
-}
-
-// First parts of lists, as calls are lent them. A list that has fewer is lent whole.
-pub fn first_words(list: &[u64], n: usize) -> &[u64] {
-    let m = fitting_words(n, list);
-    &list[..m]
-}
-
-pub fn first_counts(list: &[u32], n: usize) -> &[u32] {
-    let m = fitting_counts(n, list);
-    &list[..m]
-}
-
-pub fn part_words(list: &mut [u64], n: usize) -> &mut [u64] {
-    let m = fitting_words(n, list);
-    &mut list[..m]
 }

@@ -4,18 +4,19 @@ use crate::areas::CHECKPOINTS;
 use crate::areas::ROWS;
 use crate::areas::SLOTS;
 use crate::areas::bytes_of;
-use crate::areas::part;
+use crate::areas::lent;
 use crate::areas::put_back;
 use crate::batch::fields;
-use crate::batch::first_counts;
-use crate::batch::first_words;
-use crate::batch::part_words;
 use crate::batch::span_counts;
 use crate::batch::starts_in;
 use crate::batch::whole_in;
-use crate::calls;
 use loc_leaf::Answer;
 use loc_leaf::Kind;
+use loc_lent::calls;
+use loc_lent::calls::Storing;
+use loc_lent::parts::first_counts;
+use loc_lent::parts::first_words;
+use loc_lent::parts::part_words;
 
 // All numbers but the first.
 fn wanted(list: &[u64], n: usize) -> &[u64] {
@@ -46,7 +47,7 @@ fn append(
     let counts = span_counts(list, n);
     calls::append(
         kind,
-        letter,
+        letter == b'a',
         places,
         slots,
         rows,
@@ -58,7 +59,17 @@ fn append(
     )
 }
 
-// The call on areas that are lent.
+fn storing(letter: u8) -> Storing {
+    match letter {
+        b'c' => Storing::Create,
+        b'o' => Storing::Open,
+        b'O' => Storing::OpenRun,
+        b't' => Storing::Truncate,
+        _ => Storing::TruncateRun,
+    }
+}
+
+// The call on areas that are lent, by its letter: an upper-case one is the run of a call at some of its places.
 fn on_areas(
     kind: Kind,
     letter: u8,
@@ -74,7 +85,15 @@ fn on_areas(
         b'a' | b'A' => append(kind, letter, places, list, n, slots, rows, checkpoints),
         b'r' => calls::read(kind, slots, rows, checkpoints, wanted(list, n), answers),
         b'u' => calls::audit(kind, slots, rows, checkpoints),
-        _ => calls::store(kind, letter, list[0], places, slots, rows, checkpoints),
+        _ => calls::store(
+            kind,
+            storing(letter),
+            list[0],
+            places,
+            slots,
+            rows,
+            checkpoints,
+        ),
     }
 }
 
@@ -96,9 +115,9 @@ pub fn call(
         places,
         list,
         n,
-        part(&mut slots),
-        part(&mut rows),
-        part(&mut checkpoints),
+        lent(&mut slots),
+        lent(&mut rows),
+        lent(&mut checkpoints),
         part_words(answers, list[0] as usize),
     );
     put_back(w, SLOTS, 2080, &slots);

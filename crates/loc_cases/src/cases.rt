@@ -10,11 +10,11 @@ use crate::print;
 use crate::script::Line;
 use crate::script::found;
 use crate::script::line_at;
-use crate::script::plus;
 use crate::script::put_numbers;
 use loc_leaf::Answer;
 use loc_leaf::Kind;
 use loc_leaf::file::byte_at;
+use loc_lent::parts::plus;
 
 // A call's letter: its first, for audit its second.
 fn letter_of(line: Line) -> u8 {

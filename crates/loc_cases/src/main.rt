@@ -3,7 +3,6 @@
 mod areas;
 mod batch;
 mod call;
-mod calls;
 mod cases;
 mod print;
 mod script;

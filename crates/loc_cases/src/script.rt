@@ -1,6 +1,7 @@
 // The script's text. A line: for which kinds, a command, the words of a case, numbers; each after one space.
 // Lines end with a line feed.
 use loc_leaf::file::byte_at;
+use loc_lent::parts::plus;
 
 // The command's first letter, the first two letters of the case's words, and where the words begin, with the space before
 // them, and end.
@@ -10,15 +11,6 @@ pub struct Line {
     pub second: u8,
     pub words: usize,
     pub numbers: usize,
-}
-
-pub fn plus(a: usize, b: usize) -> usize {
-    if a < 0x100_0000 {
-        if b < 0x100_0000 {
-            return a + b;
-        }
-    }
-    0
 }
 
 fn is_digit(byte: u8) -> bool {

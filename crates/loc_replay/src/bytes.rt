@@ -1,19 +1,8 @@
 // Bytes and sums on the tape and in areas. What lies past an end reads as 0 and is not stored.
-// The tape has at most 200,000 bytes, so `plus` never meets its limit.
-ghost use mathlib.Core.Path.{_≡_};
-ghost use Prim.Native.Nat.{min};
-ghost use Rattle.io.specs.Counts.{Counts};
+// The tape has at most 200,000 bytes, so no sum of places meets a limit.
 use loc_leaf::file::byte_at;
 use loc_leaf::file::u16_at;
-
-pub fn plus(a: usize, b: usize) -> usize {
-    if a < 0x100_0000 {
-        if b < 0x100_0000 {
-            return a + b;
-        }
-    }
-    0
-}
+use loc_lent::parts::plus;
 
 pub fn eight_times(n: usize) -> usize {
     if n < 0x1_0000 { 8 * n } else { 0 }
@@ -29,24 +18,6 @@ pub fn more(n: u64) -> u64 {
 
 pub fn half(data: &[u8], at: usize) -> usize {
     u16_at(data, at) as usize
-}
-
-pub fn least(a: usize, b: usize) -> usize
-    ensures { λ r. ⌜ r ≡ min a b ⌝ }
-{
-    if a < b { a } else { b }
-}
-
-fn fitting(size: usize, bytes: &[u8]) -> usize
-    ensures { λ r. ⌜ Counts r (now (bytes .entry)) ⌝ }
-{
-    least(size, bytes.len())
-}
-
-// The first bytes, as an area that a call is lent.
-pub fn part(bytes: &mut [u8], size: usize) -> &mut [u8] {
-    let n = fitting(size, bytes);
-    &mut bytes[..n]
 }
 
 // Whether n bytes from a place on are the same.

@@ -2,15 +2,16 @@
 // Lists are lent as first parts of arrays.
 use crate::batch::put_runs;
 use crate::bytes::half;
-use crate::bytes::plus;
-use crate::calls;
-use crate::lists::first_counts;
-use crate::lists::first_words;
 use crate::reading::wanted;
 use loc_leaf::Answer;
 use loc_leaf::Kind;
 use loc_leaf::file::byte_at;
 use loc_leaf::file::u64_at;
+use loc_lent::calls;
+use loc_lent::calls::Storing;
+use loc_lent::parts::first_counts;
+use loc_lent::parts::first_words;
+use loc_lent::parts::plus;
 
 // The lists are handed on as arrays: their lengths are in their types, whatever was stored in them.
 fn append_lists(
@@ -27,9 +28,11 @@ fn append_lists(
 ) -> Answer {
     let n = half(data, plus(at, 2));
     let m = half(data, plus(at, 4));
+    let places = byte_at(data, plus(at, 1));
     calls::append(
         kind,
-        byte_at(data, plus(at, 1)) as u64,
+        places == 255,
+        places as u64,
         slots,
         rows,
         checkpoints,
@@ -98,7 +101,28 @@ fn read(
     )
 }
 
-// The call whose code stands at a place.
+// 7: create, 8: open, 10: truncate; at 255 places the whole call.
+fn storing(code: u8, places: u8) -> Storing {
+    match code {
+        7 => Storing::Create,
+        8 => {
+            if places == 255 {
+                Storing::Open
+            } else {
+                Storing::OpenRun
+            }
+        }
+        _ => {
+            if places == 255 {
+                Storing::Truncate
+            } else {
+                Storing::TruncateRun
+            }
+        }
+    }
+}
+
+// The call whose code stands at a place: 9 append, 11 a reading, 12 an audit, the others as above.
 pub fn call(
     kind: Kind,
     data: &[u8],
@@ -114,9 +138,16 @@ pub fn call(
         11 => read(kind, data, at, slots, rows, checkpoints, answers),
         12 => calls::audit(kind, slots, rows, checkpoints),
         _ => {
-            let places = byte_at(data, plus(at, 1)) as u64;
-            let count = u64_at(data, plus(at, 2));
-            calls::store(kind, code, count, places, slots, rows, checkpoints)
+            let places = byte_at(data, plus(at, 1));
+            calls::store(
+                kind,
+                storing(code, places),
+                u64_at(data, plus(at, 2)),
+                places as u64,
+                slots,
+                rows,
+                checkpoints,
+            )
         }
     }
 }

@@ -3,8 +3,6 @@
 mod batch;
 mod bytes;
 mod call;
-mod calls;
-mod lists;
 mod reading;
 mod tape;
 

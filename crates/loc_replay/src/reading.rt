@@ -1,9 +1,9 @@
 // A reading on the tape: how many numbers (1 byte), the numbers, the original's number and value, and its words.
 // The buffer is two words longer than asked and filled with 7, so that words stored past the answers show.
 use crate::bytes::eight_times;
-use crate::bytes::plus;
 use loc_leaf::Kind;
 use loc_leaf::file::u64_at;
+use loc_lent::parts::plus;
 
 pub fn wanted(data: &[u8], at: usize) -> [u64; 64] {
     let mut list = [0u64; 64];

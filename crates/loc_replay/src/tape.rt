@@ -6,19 +6,19 @@ use crate::bytes::eight_times;
 use crate::bytes::fill;
 use crate::bytes::half;
 use crate::bytes::more;
-use crate::bytes::part;
-use crate::bytes::plus;
 use crate::bytes::put_back;
 use crate::bytes::same;
 use crate::bytes::thirty_times;
 use crate::call::call;
-use crate::lists::part_words;
 use crate::reading::as_told;
 use crate::reading::words;
 use loc_leaf::Answer;
 use loc_leaf::Kind;
 use loc_leaf::file::byte_at;
 use loc_leaf::file::u64_at;
+use loc_lent::parts::part;
+use loc_lent::parts::part_words;
+use loc_lent::parts::plus;
 
 // The place on the tape, the kind (0 paired), the areas' sizes, and what was compared.
 pub struct State {

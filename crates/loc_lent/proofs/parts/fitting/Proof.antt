@@ -1,10 +1,10 @@
--- `loc_replay::bytes::fitting` meets its contract.
+-- `loc_lent::parts::fitting` meets its contract.
 use mathlib.Core.Path.{sym}
 use native.Mathlib.Omega.{arith}
 use lib.Seq.{length-take-le}
 use borrow.Author.Needs.{needs}
-use Rattle.loc_replay.proofs.bytes.fitting.Statement.{statement}
-use Rattle.loc_replay.proofs.bytes.fitting.Tie as tie
+use Rattle.loc_lent.proofs.parts.fitting.Statement.{statement}
+use Rattle.loc_lent.proofs.parts.fitting.Tie as tie
 
 least-requires : tie.Need-least-requires
 least-requires c κs = search needs

@@ -1,10 +1,10 @@
--- `loc_cases::batch::fitting_counts` meets its contract.
+-- `loc_lent::parts::fitting_counts` meets its contract.
 use mathlib.Core.Path.{sym}
 use native.Mathlib.Omega.{arith}
 use lib.Seq.{length-take-le}
 use borrow.Author.Needs.{needs}
-use Rattle.loc_cases.proofs.batch.fitting_counts.Statement.{statement}
-use Rattle.loc_cases.proofs.batch.fitting_counts.Tie as tie
+use Rattle.loc_lent.proofs.parts.fitting_counts.Statement.{statement}
+use Rattle.loc_lent.proofs.parts.fitting_counts.Tie as tie
 
 least-requires : tie.Need-least-requires
 least-requires c κs = search needs
