@@ -1,4 +1,4 @@
--- Histories that break one premise of demand 3 and meet all others: the replies of the index, and those of the book.
+-- Histories that break one premise of demand 3; that they meet the others is read off them.
 -- "Ends below 2^64" has none here: a length is below 2^35, so it takes 2^29 records to break it.
 use Prim.Native.Nat.{_+_, _^_}
 use mathlib.Core.List.{List, [], _∷_}

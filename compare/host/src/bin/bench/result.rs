@@ -104,6 +104,11 @@ fn headline(lines: &[Line]) {
     }
 }
 
+/// Which reading a line is: its first four columns.
+fn reading(line: &Line) -> String {
+    format!("| {} | {} | {} | {}", line.kind.name(), line.records, line.density, line.wanted())
+}
+
 /// The readings in which the port takes longer, and what part of them the checks are.
 fn slower(lines: &[Line]) {
     let slow: Vec<&Line> = lines.iter().filter(|line| line.against_files() > 1.0).collect();
@@ -125,15 +130,13 @@ fn slower(lines: &[Line]) {
     println!();
     head("| kind | records | rows | numbers | call | checks | original, files | call / files |");
     for line in slow {
+        let t = &line.times;
         println!(
-            "| {} | {} | {} | {} | {} | {} | {} | {} |",
-            line.kind.name(),
-            line.records,
-            line.density,
-            line.wanted(),
-            us(line.times.call),
-            us(line.times.checks),
-            us(line.times.files),
+            "{} | {} | {} | {} | {} |",
+            reading(line),
+            us(t.call),
+            us(t.checks),
+            us(t.files),
             ratio(line.against_files())
         );
     }
@@ -152,16 +155,8 @@ fn above_half(lines: &[Line]) {
     );
     head("| kind | records | rows | numbers | call | original, files | call / files |");
     for line in left {
-        println!(
-            "| {} | {} | {} | {} | {} | {} | {} |",
-            line.kind.name(),
-            line.records,
-            line.density,
-            line.wanted(),
-            us(line.times.call),
-            us(line.times.files),
-            ratio(line.against_files())
-        );
+        let t = &line.times;
+        println!("{} | {} | {} | {} |", reading(line), us(t.call), us(t.files), ratio(line.against_files()));
     }
 }
 
