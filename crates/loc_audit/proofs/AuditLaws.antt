@@ -10,14 +10,14 @@ use borrow.Author.Tests.{eqb-true, not-true}
 use Rattle.loc_leaf.specs.declared.Kind.{Kind}
 use Rattle.loc_leaf.specs.declared.Kind.the-variants.{Paired, Single}
 use Rattle.loc_leaf.specs.Bytes.{Bytes}
-use Rattle.loc_leaf.specs.Answers.{refuse, _orElse_, answer}
+use Rattle.loc_leaf.specs.Answers.{answer}
 use Rattle.loc_leaf.specs.Area.{counted, fill}
 use Rattle.loc_leaf.specs.Kind.{checkpointWidth}
 use Rattle.loc_leaf.proofs.Booleans.{is?, both-right, neither-left, neither-right}
 use Rattle.loc_calls.specs.Areas.{Areas, areas, count}
 use Rattle.loc_calls.specs.Stores.{Place, slotLength, checkpointLength, differing, slotsTo, rowsTo, checkpointsTo, endsAt, truncatePlaces, ruledCount, openPlaces, openRefusal, cutRule, ruled, stores, anyStores, settled}
 use Rattle.loc_calls.specs.Audit.{sound}
-use Rattle.loc_calls.specs.Calls.{tooSmall, audit}
+use Rattle.loc_calls.specs.Calls.{firstRefusal, audit}
 use Rattle.loc_store.proofs.SettledLaws.{accepted-settled, accepted-ascends}
 use Rattle.loc_audit.specs.Pass.{Auditable}
 
@@ -77,7 +77,7 @@ module _ (k : Kind) (a : Areas) (e : settled k a ≡ true) where
 
 -- ---- the answer
 
-module _ (k : Kind) (s r c : Bytes) (number : ℕ) (e : number ≡ refuse (tooSmall (areas s r c)) 1 orElse refuse (not (settled k (areas s r c))) 6) where
+module _ (k : Kind) (s r c : Bytes) (number : ℕ) (e : number ≡ firstRefusal k (areas s r c)) where
   pub audit-refused : (number ≡ 0 → ⊥) → record { number = number; value = 0 } ≡ audit k (areas s r c) .answer
   unfolding audit answer
   audit-refused h = rw (← e) (refused number h)

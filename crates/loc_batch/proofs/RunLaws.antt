@@ -2,16 +2,15 @@
 -- The places of a ready stage are those of the definition.
 use Prim.Native.Nat.{ℕ}
 use mathlib.Core.Path.{_≡_, refl, sym, ap, _∙_}
-use mathlib.Core.Bool.{not}
 use mathlib.Core.List.{List}
 use Rattle.loc_leaf.specs.declared.Kind.{Kind}
 use Rattle.loc_leaf.specs.Bytes.{Bytes}
-use Rattle.loc_leaf.specs.Answers.{refuse, _orElse_}
+use Rattle.loc_leaf.specs.Answers.{_orElse_}
 use Rattle.loc_leaf.specs.Area.{fill}
 use Rattle.loc_calls.specs.Areas.{Areas, areas, sizes, count}
 use Rattle.loc_calls.specs.Table.{Entry, Batch, append, entries, table}
-use Rattle.loc_calls.specs.Stores.{Place, run, differing, settled, staged, appendPlaces, newEnds}
-use Rattle.loc_calls.specs.Calls.{tooSmall, unread, isOpening, refusal, places, value, call}
+use Rattle.loc_calls.specs.Stores.{Place, run, differing, staged, appendPlaces, newEnds}
+use Rattle.loc_calls.specs.Calls.{firstRefusal, unread, isOpening, refusal, places, value, call}
 use Rattle.loc_leaf.proofs.Refusals.{orElse-first, orElse-zero}
 use Rattle.loc_calls.specs.Promises.{Stored}
 use Rattle.loc_calls.proofs.Outcomes.{refused, accepted, refusal-after}
@@ -25,17 +24,21 @@ unfolding stagePlaces appendPlaces growing differing staged
 places-are k a es t r =
     rw (r .oldSlots, r .oldRows, r .oldCheckpoints, r .newSlots, r .newRows, r .newCheckpoints, r .base) refl
 
-module _ (k : Kind) (s r c : Bytes) (b : Batch) (p first : ℕ) (e : first ≡ refuse (tooSmall (areas s r c)) 1 orElse refuse (not (settled k (areas s r c))) 6) where
-  append-number : refusal k (append b) (areas s r c) ≡ first orElse table k (count (areas s r c)) (newEnds k (areas s r c)) (sizes (areas s r c)) (append b)
+module _ (k : Kind) (s r c : Bytes) (b : Batch) (p : ℕ) where
+  append-number : (first : ℕ) → first ≡ firstRefusal k (areas s r c)
+      → refusal k (append b) (areas s r c) ≡ first orElse table k (count (areas s r c)) (newEnds k (areas s r c)) (sizes (areas s r c)) (append b)
   unfolding isOpening unread
-  append-number = refusal-after k (append b) (areas s r c) first refl e ∙ ap (λ (n : ℕ). first orElse n) (orElse-zero (table k (count (areas s r c)) (newEnds k (areas s r c)) (sizes (areas s r c)) (append b)))
+  append-number first e =
+      refusal-after k (append b) (areas s r c) first refl e
+      ∙ ap (λ (n : ℕ). first orElse n) (orElse-zero (table k (count (areas s r c)) (newEnds k (areas s r c)) (sizes (areas s r c)) (append b)))
 
-  pub append-refused : (first ≡ 0 → ⊥) → Stored (call k p (append b) (areas s r c)) (record { number = first; value = 0 }) (areas s r c)
-  append-refused h = refused k p (append b) (areas s r c) first (append-number ∙ orElse-first first _ h) h
+  pub append-refused : (first : ℕ) → first ≡ firstRefusal k (areas s r c) → (first ≡ 0 → ⊥)
+      → Stored (call k p (append b) (areas s r c)) (record { number = first; value = 0 }) (areas s r c)
+  append-refused first e h = refused k p (append b) (areas s r c) first (append-number first e ∙ orElse-first first _ h) h
 
-  module _ (z : first ≡ 0) (d : Decision) (q : Planned k (areas s r c) b d) where
+  module _ (z : firstRefusal k (areas s r c) ≡ 0) (d : Decision) (q : Planned k (areas s r c) b d) where
     planned-number : refusal k (append b) (areas s r c) ≡ d .number
-    planned-number = append-number ∙ rw z (sym (q .number))
+    planned-number = append-number 0 (sym z) ∙ sym (q .number)
 
     pub append-planned : (d .number ≡ 0 → ⊥) → Stored (call k p (append b) (areas s r c)) (record { number = d .number; value = 0 }) (areas s r c)
     append-planned h = refused k p (append b) (areas s r c) (d .number) planned-number h

@@ -22,8 +22,8 @@ use Rattle.loc_calls.specs.Table.{Call, opening, append, truncate, read}
 use Rattle.loc_calls.specs.Stores.{Place, keep, slotLength, rowLength, checkpointLength, write, step, run, differing, truncatePlaces, nextRow, holdsNext, cutRule, ruledCount, ruled, openPlaces, ragged, openRefusal, settled, newEnd, newEnds, appendPlaces}
 use Rattle.loc_calls.specs.Reading.{lookupAt, valueAt, stridesAfter, spansAfter, checkpointAt, windowEnd, rowMissing, anyMissing, wordsFor}
 use Rattle.loc_calls.specs.Audit.{bodySum, spanSum, checkpointSound, sound}
-use Rattle.loc_calls.specs.Calls.{unlessRefused, tooSmall, unread, refusal, places, buffer, areasAfter, call, createPlaces, create, audit}
-use Rattle.loc_calls.specs.Guarantees.{AnyCall, indexCall, creation, auditing, outcome, SameFrom8, SameOutcome, FirstBytesUnread, FirstBytesUnwritten}
+use Rattle.loc_calls.specs.Calls.{unlessRefused, tooSmall, firstRefusal, unread, refusal, places, buffer, areasAfter, call, createPlaces, create, audit}
+use Rattle.loc_calls.specs.Guarantees.{AnyCall, indexCall, creation, auditing, outcome, SameFrom8, SameOutcome, Unread, FirstBytesUnread, Unwritten, FirstBytesUnwritten}
 
 -- ---- one area
 
@@ -95,12 +95,12 @@ module _ {xs ys : Bytes} (h : Same xs ys) where
 
 -- ---- three areas
 
-record Parts (a b : Areas) : Type 0 where
+pub record Parts (a b : Areas) : Type 0 where
   slots : Same (a .slots) (b .slots)
   rows : Same (a .rows) (b .rows)
   checkpoints : Same (a .checkpoints) (b .checkpoints)
 
-parts : {a b : Areas} → SameFrom8 a b → Parts a b
+pub parts : {a b : Areas} → SameFrom8 a b → Parts a b
 unfolding sizes
 parts h = record {
   slots = same _ _ (ap (λ (x : Three ℕ). x .slots) (h .size)) (ap (λ (x : Areas). x .slots) (h .rest));
@@ -145,7 +145,7 @@ unfolding tooSmall
 small-same h = rw (h .slots .size, h .rows .size, h .checkpoints .size) refl
 
 module _ (k : Kind) {a b : Areas} (h : Parts a b) where
-  count-same : count a ≡ count b
+  pub count-same : count a ≡ count b
   unfolding count fill
   count-same = rw (counted-same (h .slots)) refl
 
@@ -181,6 +181,9 @@ module _ (k : Kind) {a b : Areas} (h : Parts a b) where
   settled-same : settled k a ≡ settled k b
   unfolding settled
   settled-same = rw (openRefusal-same, open-same) refl
+
+  pub first-same : firstRefusal k a ≡ firstRefusal k b
+  first-same = rw (small-same h, settled-same) refl
 
   ends-same : newEnds k a ≡ newEnds k b
   unfolding newEnds newEnd
@@ -254,7 +257,7 @@ outcome-same creation {b = b} h = record {
 outcome-same (auditing k) h = record { answer = rw (small-same h, settled-same k h, sound-same k h) refl; buffer = refl; areas = whole h }
 
 pub first-bytes-unread : FirstBytesUnread
-unfolding FirstBytesUnread
+unfolding FirstBytesUnread Unread
 first-bytes-unread c a b h = outcome-same c (parts h)
 
 -- ---- what a call stores
@@ -288,7 +291,7 @@ kept-unless zero d a h = h
 kept-unless (suc n) d a h = refl
 
 pub first-bytes-unwritten : FirstBytesUnwritten
-unfolding FirstBytesUnwritten outcome call areasAfter create audit
+unfolding FirstBytesUnwritten Unwritten outcome call areasAfter create audit
 first-bytes-unwritten (indexCall k s c) a = kept-unless (refusal k c a) (run s (places k c a) a) a (kept-run s (places k c a) a)
 first-bytes-unwritten creation a = kept-unless (refuse (tooSmall a) 1) (run 3 createPlaces a) a (kept-run 3 createPlaces a)
 first-bytes-unwritten (auditing k) a = refl

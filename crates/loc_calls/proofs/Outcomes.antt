@@ -11,7 +11,7 @@ use Rattle.loc_calls.specs.Areas.{Areas, sizes, count}
 use Rattle.loc_calls.specs.Table.{Call, read, table}
 use Rattle.loc_calls.specs.Stores.{run, settled, newEnds}
 use Rattle.loc_calls.specs.Reading.{wordsFor, answered, found}
-use Rattle.loc_calls.specs.Calls.{unlessRefused, tooSmall, unread, isOpening, refusal, places, value, lent, buffer, areasAfter, call}
+use Rattle.loc_calls.specs.Calls.{unlessRefused, tooSmall, firstRefusal, unread, isOpening, refusal, places, value, lent, buffer, areasAfter, call}
 use Rattle.loc_calls.specs.Promises.{Stored, Read}
 
 module _ (k : Kind) (s : ℕ) (c : Call) (a : Areas) where
@@ -25,7 +25,7 @@ module _ (k : Kind) (s : ℕ) (c : Call) (a : Areas) where
   accepted d e q = (rw (e, ← q) refl, rw e q)
 
 -- 1, then 6, then the table and 17
-pub refusal-after : (k : Kind) (c : Call) (a : Areas) (n : ℕ) → isOpening c ≡ false → n ≡ refuse (tooSmall a) 1 orElse refuse (not (settled k a)) 6
+pub refusal-after : (k : Kind) (c : Call) (a : Areas) (n : ℕ) → isOpening c ≡ false → n ≡ firstRefusal k a
     → refusal k c a ≡ n orElse (table k (count a) (newEnds k a) (sizes a) c orElse refuse (unread k a c) 17)
 unfolding refusal
 refusal-after k c a n h e =

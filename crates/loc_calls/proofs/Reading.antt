@@ -181,17 +181,18 @@ module _ (k : Kind) (a : Areas) (E : List Entry) (s : Full k a E) where
       go (inl t) = rw (t, all-there (before id) (lookedAt k (length E) id) (looked-inside k id t)) refl
       go (inr t) = rw t refl
 
+  pub none-missing : (ids : List ℕ) → anyMissing k a ids ≡ false
+  unfolding anyMissing
+  none-missing [] = refl
+  none-missing (id ∷ ids) = rw (missing-none id) (none-missing ids)
+
   -- 17 never comes
   pub none-unread : (c : Call) → unread k a c ≡ false
-  unfolding unread anyMissing
+  unfolding unread
   none-unread opening = refl
   none-unread (append b) = refl
   none-unread (truncate w) = refl
-  none-unread (read ids out) = go ids
-    where
-      go : (ids : List ℕ) → anyMissing k a ids ≡ false
-      go [] = refl
-      go (id ∷ ids) = rw (missing-none id) (go ids)
+  none-unread (read ids out) = none-missing ids
 
   -- ---- sums
 

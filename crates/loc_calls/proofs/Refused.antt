@@ -19,9 +19,9 @@ use Rattle.loc_leaf.proofs.Refusals.{orElse-holds, refuse-holds}
 use Rattle.loc_calls.specs.Areas.{Three, Areas, sizes, count}
 use Rattle.loc_calls.specs.Table.{Call, opening, append, truncate, read, Entry, bodyAfter, spanAfter, entries, wordWidth, uneven, spanless, breaks, entryRefusal, entriesRefusal, endPast, batchRefusal, table}
 use Rattle.loc_calls.specs.Stores.{ragged, openRefusal, settled, newEnds}
-use Rattle.loc_calls.specs.Calls.{unlessRefused, tooSmall, unread, isOpening, refusal, call, create, audit}
+use Rattle.loc_calls.specs.Calls.{unlessRefused, tooSmall, firstRefusal, unread, isOpening, refusal, call, create, audit}
 use Rattle.loc_calls.specs.Promises.{Stored}
-use Rattle.loc_calls.specs.Guarantees.{indexCall, creation, auditing, outcome, lentTo, numberOf, largest, NumbersOfTable, RefusalsLeaveAll}
+use Rattle.loc_calls.specs.Guarantees.{indexCall, creation, auditing, outcome, lentTo, largest, InTable, NumbersOfTable, LeavesAll, RefusalsLeaveAll}
 use Rattle.loc_calls.proofs.Outcomes.{refused}
 
 -- ---- the table's numbers
@@ -60,36 +60,39 @@ module _ (P : ℕ → Type 0) (none : P 0) (each : (n : ℕ) → 7 ≤ n → n �
 
 -- ---- every call's number
 
-abbrev InTable : ℕ → Type 0
-InTable n = n ≤ largest
+abbrev Numbered : ℕ → Type 0
+Numbered n = n ≤ largest
 
-test : (n : ℕ) (b : Bool) → leb n largest ≡ true → InTable (refuse b n)
-test n b h = refuse-holds InTable n b (omega arith) (leb-true n largest h)
+pub test : (n : ℕ) (b : Bool) → leb n largest ≡ true → refuse b n ≤ largest
+test n b h = refuse-holds Numbered n b (omega arith) (leb-true n largest h)
 
-first : {x y : ℕ} → InTable x → InTable y → InTable (x orElse y)
-first p q = orElse-holds InTable p q
+pub first : {x y : ℕ} → x ≤ largest → y ≤ largest → (x orElse y) ≤ largest
+first p q = orElse-holds Numbered p q
 
-table-in : (k : Kind) (n : ℕ) (ends : List Entry → Three ℕ) (size : Three ℕ) (c : Call) → InTable (table k n ends size c)
-table-in = table-holds InTable (omega arith) (λ n g l. omega arith)
+table-in : (k : Kind) (n : ℕ) (ends : List Entry → Three ℕ) (size : Three ℕ) (c : Call) → Numbered (table k n ends size c)
+table-in = table-holds Numbered (omega arith) (λ n g l. omega arith)
 
-open-in : (k : Kind) (a : Areas) → InTable (openRefusal k a)
+open-in : (k : Kind) (a : Areas) → Numbered (openRefusal k a)
 unfolding openRefusal
 open-in k a =
     first (test 2 (ragged 2 (a .slots)) refl)
     (first (test 3 (ragged (checkpointWidth k) (a .checkpoints)) refl)
     (first (test 4 (ragged (rowWidth k) (a .rows)) refl) (test 5 (not (ascending 0 (rowList k (a .rows)))) refl)))
 
-small-in : (a : Areas) → InTable (refuse (tooSmall a) 1)
+small-in : (a : Areas) → Numbered (refuse (tooSmall a) 1)
 small-in a = test 1 (tooSmall a) refl
 
-unsettled-in : (k : Kind) (a : Areas) → InTable (refuse (not (settled k a)) 6)
+unsettled-in : (k : Kind) (a : Areas) → Numbered (refuse (not (settled k a)) 6)
 unsettled-in k a = test 6 (not (settled k a)) refl
 
-refusal-in : (k : Kind) (c : Call) (a : Areas) → InTable (refusal k c a)
+pub first-in : (k : Kind) (a : Areas) → firstRefusal k a ≤ largest
+first-in k a = first (small-in a) (unsettled-in k a)
+
+refusal-in : (k : Kind) (c : Call) (a : Areas) → Numbered (refusal k c a)
 unfolding refusal
 refusal-in k c a = first (small-in a) (go (isOpening c))
   where
-    go : (b : Bool) → InTable (cond b (openRefusal k a) (refuse (not (settled k a)) 6 orElse table k (count a) (newEnds k a) (sizes a) c orElse refuse (unread k a c) 17))
+    go : (b : Bool) → Numbered (cond b (openRefusal k a) (refuse (not (settled k a)) 6 orElse table k (count a) (newEnds k a) (sizes a) c orElse refuse (unread k a c) 17))
     go true = open-in k a
     go false = first (unsettled-in k a) (first (table-in k (count a) (newEnds k a) (sizes a) c) (test 17 (unread k a c) refl))
 
@@ -100,10 +103,10 @@ number-is zero v = refl
 number-is (suc n) v = refl
 
 pub numbers-of-table : NumbersOfTable
-unfolding NumbersOfTable numberOf outcome call create audit
+unfolding NumbersOfTable InTable outcome call create audit
 numbers-of-table (indexCall k s c) a = rw number-is (refusal-in k c a)
 numbers-of-table creation a = rw number-is (small-in a)
-numbers-of-table (auditing k) a = rw number-is (first (small-in a) (unsettled-in k a))
+numbers-of-table (auditing k) a = rw number-is (first-in k a)
 
 -- ---- refusals
 
@@ -118,10 +121,10 @@ kept zero v new old h = absurd (h refl)
 kept (suc n) v new old h = refl
 
 pub refusals-leave-all : RefusalsLeaveAll
-unfolding RefusalsLeaveAll numberOf outcome lentTo call create audit
+unfolding RefusalsLeaveAll LeavesAll outcome lentTo call create audit
 refusals-leave-all (indexCall k s c) a h = record { value = ap (λ (r : Answer). r .value) (sym (left .0)); buffer = kept (refusal k c a) _ _ _ h; areas = sym (left .1) }
   where
     left : Stored (call k s c a) (record { number = refusal k c a; value = 0 }) a
     left = refused k s c a (refusal k c a) refl (λ e. h (number-is (refusal k c a) _ ∙ e))
 refusals-leave-all creation a h = record { value = value-0 (refuse (tooSmall a) 1) 0 h; buffer = refl; areas = kept (refuse (tooSmall a) 1) 0 _ a h }
-refusals-leave-all (auditing k) a h = record { value = value-0 (refuse (tooSmall a) 1 orElse refuse (not (settled k a)) 6) _ h; buffer = refl; areas = refl }
+refusals-leave-all (auditing k) a h = record { value = value-0 (firstRefusal k a) _ h; buffer = refl; areas = refl }

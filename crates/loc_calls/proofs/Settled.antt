@@ -19,7 +19,7 @@ use Rattle.loc_leaf.proofs.AreaLaws.{length-storeLength, length-storePast}
 use Rattle.loc_calls.specs.Areas.{Areas, sizes, count}
 use Rattle.loc_calls.specs.Table.{Entry, Call, opening, append, truncate, read, table}
 use Rattle.loc_calls.specs.Stores.{Place, keep, slotLength, rowLength, checkpointLength, write, step, run, differing, truncatePlaces, ruledCount, ruled, openPlaces, openRefusal, stores, anyStores, settled, gather, newEnds, appendPlaces}
-use Rattle.loc_calls.specs.Calls.{unlessRefused, tooSmall, unread, isOpening, refusal, places, placeCount, createPlaces, create}
+use Rattle.loc_calls.specs.Calls.{unlessRefused, tooSmall, firstRefusal, unread, isOpening, refusal, places, placeCount, createPlaces, create}
 use Rattle.loc_calls.proofs.Holds.{holds-ragged, fresh}
 use Rattle.loc_calls.proofs.Gathered.{slotsOf, rowsOf, checkpointsOf, AllValid, rows-ascend, ascend-take, rowsIn-all}
 use Rattle.loc_calls.proofs.State.{State, count-is, few, row-list, checkpoint-fill, up-to, no-false-cut}
@@ -128,7 +128,7 @@ module _ (k : Kind) (a : Areas) (E : List Entry) (s : Full k a E) where
   refusal-is c h = rw (not-small k a E _ _ s, h, is-settled) refl
 
   -- neither 1 nor 6
-  pub not-1-nor-6 : (refuse (tooSmall a) 1 orElse refuse (not (settled k a)) 6) ≡ 0
+  pub not-1-nor-6 : firstRefusal k a ≡ 0
   not-1-nor-6 = rw (not-small k a E _ _ s, is-settled) refl
 
 -- ---- creation

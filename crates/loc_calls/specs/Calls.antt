@@ -31,6 +31,10 @@ unlessRefused (suc n) new old = old
 unfoldable pub tooSmall : Areas → Bool
 tooSmall a = some (each (λ xs. ltb (length xs) 16) a)
 
+-- 1, then 6: with these every call but creation and opening begins
+abbrev pub firstRefusal : Kind → Areas → ℕ
+firstRefusal k a = refuse (tooSmall a) 1 orElse refuse (not (settled k a)) 6
+
 -- 17, of a reading
 unfoldable pub unread : Kind → Areas → Call → Bool
 unread k a opening = false
@@ -113,7 +117,7 @@ create a = record {
 -- 1, then 6; for audit 1 or 0
 unfoldable pub audit : Kind → Areas → Outcome
 audit k a = record {
-  answer = answer (refuse (tooSmall a) 1 orElse refuse (not (settled k a)) 6) (cond (sound k a) 1 0);
+  answer = answer (firstRefusal k a) (cond (sound k a) 1 0);
   buffer = [];
   areas = a;
 }

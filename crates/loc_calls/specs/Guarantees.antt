@@ -1,5 +1,5 @@
 -- What holds of every call on any areas: which numbers it gives, what a refusal leaves, and what bytes 0 to 7 are to it
--- (document 01, "What each call gives"; "file.rs, length only"). Each claim is proved in proofs/Refused or proofs/FirstBytes.
+-- (document 01, "What each call gives"; "file.rs, length only"). Each is said of any outcome of areas, then of all calls at once.
 use Prim.Native.Nat.{ℕ, _≤_}
 use mathlib.Core.Path.{_≡_}
 use mathlib.Core.List.{List, []}
@@ -28,18 +28,15 @@ lentTo (indexCall k s c) = lent c
 lentTo creation = []
 lentTo (auditing k) = []
 
-unfoldable pub numberOf : AnyCall → Areas → ℕ
-numberOf c a = ((outcome c a) .answer) .number
-
 -- ---- numbers and refusals
 
 -- the table's largest number
 abbrev pub largest : ℕ
-largest = 17
+largest = 20
 
 -- the column "Number": a call gives 0 or a number of the table
-unfoldable pub NumbersOfTable : Type 0
-NumbersOfTable = (c : AnyCall) (a : Areas) → numberOf c a ≤ largest
+unfoldable pub InTable : (Areas → Outcome) → Type 0
+InTable f = (a : Areas) → (f a) .answer .number ≤ largest
 
 -- the columns "Returned": "number, value 0"; and "Left as it was": "everything"
 pub record Refusal (o : Outcome) (a : Areas) (out : List ℕ) : Type 0 where
@@ -48,8 +45,8 @@ pub record Refusal (o : Outcome) (a : Areas) (out : List ℕ) : Type 0 where
   pub areas : o .areas ≡ a
 
 -- what every refusal gives of the areas and the buffer that it was lent
-unfoldable pub RefusalsLeaveAll : Type 0
-RefusalsLeaveAll = (c : AnyCall) (a : Areas) → (numberOf c a ≡ 0 → ⊥) → Refusal (outcome c a) a (lentTo c)
+unfoldable pub LeavesAll : (Areas → Outcome) → List ℕ → Type 0
+LeavesAll f out = (a : Areas) → ((f a) .answer .number ≡ 0 → ⊥) → Refusal (f a) a out
 
 -- ---- bytes 0 to 7
 
@@ -64,9 +61,30 @@ pub record SameOutcome (o p : Outcome) : Type 0 where
   pub areas : SameFrom8 (o .areas) (p .areas)
 
 -- "Bytes 0 to 7 are neither read": areas that differ only there get the same answers and the same stores,
-unfoldable pub FirstBytesUnread : Type 0
-FirstBytesUnread = (c : AnyCall) (a b : Areas) → SameFrom8 a b → SameOutcome (outcome c a) (outcome c b)
+unfoldable pub Unread : (Areas → Outcome) → Type 0
+Unread f = (a b : Areas) → SameFrom8 a b → SameOutcome (f a) (f b)
 
 -- "nor written": they come back as they were
+unfoldable pub Unwritten : (Areas → Outcome) → Type 0
+Unwritten f = (a : Areas) → each (take 8) ((f a) .areas) ≡ each (take 8) a
+
+-- ---- all of it
+
+-- of a call that is lent the buffer out
+pub record Guaranteed (f : Areas → Outcome) (out : List ℕ) : Type 0 where
+  pub number : InTable f
+  pub refusal : LeavesAll f out
+  pub unread : Unread f
+  pub unwritten : Unwritten f
+
+unfoldable pub NumbersOfTable : Type 0
+NumbersOfTable = (c : AnyCall) → InTable (outcome c)
+
+unfoldable pub RefusalsLeaveAll : Type 0
+RefusalsLeaveAll = (c : AnyCall) → LeavesAll (outcome c) (lentTo c)
+
+unfoldable pub FirstBytesUnread : Type 0
+FirstBytesUnread = (c : AnyCall) → Unread (outcome c)
+
 unfoldable pub FirstBytesUnwritten : Type 0
-FirstBytesUnwritten = (c : AnyCall) (a : Areas) → each (take 8) ((outcome c a) .areas) ≡ each (take 8) a
+FirstBytesUnwritten = (c : AnyCall) → Unwritten (outcome c)

@@ -2,7 +2,6 @@
 -- 1, 6; 15, 16; 17; then an answer for each wanted number.
 use Prim.Native.Nat.{ℕ, _+_, _-_, _*_, _^_, _≤_, _<_}
 use mathlib.Core.Path.{_≡_, refl, sym, ap, _∙_}
-use mathlib.Core.Bool.{not}
 use mathlib.Core.List.{List, _++_}
 use native.Mathlib.Omega.{arith}
 use lib.Dec.{ltb}
@@ -19,9 +18,8 @@ use Rattle.loc_leaf.proofs.AreaLaws.{counted-le}
 use Rattle.loc_leaf.proofs.Refusals.{orElse-first}
 use Rattle.loc_calls.specs.Areas.{Areas, areas, count}
 use Rattle.loc_calls.specs.Table.{read, table, wordWidth}
-use Rattle.loc_calls.specs.Stores.{settled}
 use Rattle.loc_calls.specs.Reading.{within, anyMissing, found}
-use Rattle.loc_calls.specs.Calls.{tooSmall, unread, isOpening, refusal, call}
+use Rattle.loc_calls.specs.Calls.{firstRefusal, unread, isOpening, refusal, call}
 use Rattle.loc_calls.specs.Promises.{Read}
 use Rattle.loc_calls.proofs.Outcomes.{read-refused, read-accepted, refusal-after}
 use Rattle.loc_order.specs.Order.{All}
@@ -44,12 +42,12 @@ straight x old new long same =
 
 module _ (k : Kind) (a : Areas) (ids out : List ℕ) where
   -- 1 or 6
-  pub read-first : (n : ℕ) → n ≡ refuse (tooSmall a) 1 orElse refuse (not (settled k a)) 6 → (n ≡ 0 → ⊥)
+  pub read-first : (n : ℕ) → n ≡ firstRefusal k a → (n ≡ 0 → ⊥)
       → Read (call k 0 (read ids out) a) (record { number = n; value = 0 }) out
   unfolding isOpening
   read-first n e h = read-refused k a ids out n (refusal-after k (read ids out) a n refl e ∙ orElse-first n _ h) h
 
-  module _ (n : ℕ) (e : n ≡ refuse (tooSmall a) 1 orElse refuse (not (settled k a)) 6) (z : n ≡ 0) where
+  module _ (n : ℕ) (e : n ≡ firstRefusal k a) (z : n ≡ 0) where
     number-is : refusal k (read ids out) a
         ≡ (refuse (ltb 1024 (length ids)) 15 orElse refuse (ltb (length out) (wordWidth k * length ids)) 16) orElse refuse (anyMissing k a ids) 17
     unfolding isOpening table unread

@@ -2,17 +2,14 @@
 -- 17 is left to the walk.
 use Prim.Native.Nat.{ℕ, _*_, _≤_}
 use mathlib.Core.Path.{_≡_}
-use mathlib.Core.Bool.{not}
 use mathlib.Core.List.{List}
 use lib.ListN.{length}
 use Rattle.loc_leaf.specs.declared.Kind.{Kind}
-use Rattle.loc_leaf.specs.Answers.{refuse, _orElse_}
 use Rattle.loc_calls.specs.Areas.{Areas}
 use Rattle.loc_calls.specs.Table.{wordWidth}
-use Rattle.loc_calls.specs.Stores.{settled}
-use Rattle.loc_calls.specs.Calls.{tooSmall}
+use Rattle.loc_calls.specs.Calls.{firstRefusal}
 
 pub record Tested (k : Kind) (a : Areas) (ids out : List ℕ) : Type 0 where
-  pub opened : 0 ≡ refuse (tooSmall a) 1 orElse refuse (not (settled k a)) 6
+  pub opened : 0 ≡ firstRefusal k a
   pub few : length ids ≤ 1024
   pub room : wordWidth k * length ids ≤ length out

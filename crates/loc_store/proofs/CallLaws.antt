@@ -2,7 +2,7 @@
 -- A refusal leaves the areas; an accepted call has made the stores of its first places.
 use Prim.Native.Nat.{ℕ, _≤_, _<_}
 use mathlib.Core.Path.{_≡_, refl, sym, ap, _∙_}
-use mathlib.Core.Bool.{Bool, true, false, not}
+use mathlib.Core.Bool.{Bool, true, false}
 use native.Mathlib.Omega.{arith}
 use lib.Dec.{ltb}
 use borrow.Author.Tests.{lt-ltb, le-ltb}
@@ -13,8 +13,8 @@ use Rattle.loc_leaf.specs.Area.{storeLength, fill}
 use Rattle.loc_leaf.proofs.Refusals.{orElse-first}
 use Rattle.loc_calls.specs.Areas.{count, areas}
 use Rattle.loc_calls.specs.Table.{opening, truncate, table}
-use Rattle.loc_calls.specs.Stores.{step, run, truncatePlaces, openRefusal, settled}
-use Rattle.loc_calls.specs.Calls.{unlessRefused, tooSmall, unread, isOpening, refusal, places, value, call, createPlaces, create}
+use Rattle.loc_calls.specs.Stores.{step, run, truncatePlaces, openRefusal}
+use Rattle.loc_calls.specs.Calls.{unlessRefused, tooSmall, firstRefusal, unread, isOpening, refusal, places, value, call, createPlaces, create}
 use Rattle.loc_calls.specs.Promises.{Stored}
 use Rattle.loc_calls.proofs.Outcomes.{refused, accepted, refusal-after}
 use Rattle.loc_store.specs.declared.Lengths.{Lengths}
@@ -24,7 +24,7 @@ use Rattle.loc_store.proofs.SettledLaws.{open-places}
 
 -- ---- truncation
 
-module _ (k : Kind) (s r c : Bytes) (w p number : ℕ) (e : number ≡ refuse (tooSmall (areas s r c)) 1 orElse refuse (not (settled k (areas s r c))) 6) where
+module _ (k : Kind) (s r c : Bytes) (w p number : ℕ) (e : number ≡ firstRefusal k (areas s r c)) where
   truncate-number : refusal k (truncate w) (areas s r c) ≡ number orElse (refuse (ltb (fill 2 s) w) 14 orElse 0)
   unfolding isOpening table unread count
   truncate-number = refusal-after k (truncate w) (areas s r c) number refl e

@@ -18,7 +18,7 @@ use Rattle.loc_leaf.proofs.Refusals.{orElse-left, orElse-right, refuse-zero}
 use Rattle.loc_leaf.proofs.Booleans.{is?, both-left, neither-left, neither-right}
 use Rattle.loc_calls.specs.Areas.{Areas, areas}
 use Rattle.loc_calls.specs.Stores.{Place, keep, slotLength, rowLength, checkpointLength, write, step, run, differing, truncatePlaces, ruled, openPlaces, ragged, openRefusal, stores, anyStores, settled}
-use Rattle.loc_calls.specs.Calls.{tooSmall}
+use Rattle.loc_calls.specs.Calls.{tooSmall, firstRefusal}
 use Rattle.loc_store.specs.declared.Lengths.{Lengths}
 use Rattle.loc_store.specs.declared.Rules.{Rules}
 use Rattle.loc_store.specs.Areas.{Sized}
@@ -141,7 +141,7 @@ opened-ascends k s r c n e h = not-false (ascending 0 (rowList k r)) (refuse-zer
     five = refuse (not (ascending 0 (rowList k r))) 5
 
 -- of number 1 and 6
-module _ (k : Kind) (s r c : Bytes) (n : ℕ) (e : n ≡ refuse (tooSmall (areas s r c)) 1 orElse refuse (not (settled k (areas s r c))) 6) (h : n ≡ 0) where
+module _ (k : Kind) (s r c : Bytes) (n : ℕ) (e : n ≡ firstRefusal k (areas s r c)) (h : n ≡ 0) where
   pub accepted-sized : Sized (areas s r c)
   accepted-sized = not-small s r c (tooSmall (areas s r c)) refl (refuse-zero (tooSmall (areas s r c)) 0 (orElse-left _ (refuse (not (settled k (areas s r c))) 6) (sym e ∙ h)))
 
@@ -160,12 +160,12 @@ module _ (k : Kind) (s r c : Bytes) (n : ℕ) (e : n ≡ refuse (tooSmall (areas
 -- ---- 1, then 6
 
 module _ (k : Kind) (s r c : Bytes) (b : Bool) (e : b ≡ tooSmall (areas s r c)) where
-  pub call-1 : b ≡ true → 1 ≡ refuse (tooSmall (areas s r c)) 1 orElse refuse (not (settled k (areas s r c))) 6
+  pub call-1 : b ≡ true → 1 ≡ firstRefusal k (areas s r c)
   call-1 h = rw (← e, h) refl
 
   module _ (h : b ≡ false) (d : Bool) (f : d ≡ settled k (areas s r c)) where
-    pub call-0 : d ≡ true → 0 ≡ refuse (tooSmall (areas s r c)) 1 orElse refuse (not (settled k (areas s r c))) 6
+    pub call-0 : d ≡ true → 0 ≡ firstRefusal k (areas s r c)
     call-0 g = rw (← e, h, ← f, g) refl
 
-    pub call-6 : d ≡ false → 6 ≡ refuse (tooSmall (areas s r c)) 1 orElse refuse (not (settled k (areas s r c))) 6
+    pub call-6 : d ≡ false → 6 ≡ firstRefusal k (areas s r c)
     call-6 g = rw (← e, h, ← f, g) refl

@@ -3,9 +3,8 @@
 ghost use mathlib.Core.Path.{_≡_};
 ghost use mathlib.Core.Bool.{not};
 ghost use Prim.Native.Nat.{_<_};
-ghost use Rattle.loc_leaf.specs.Answers.{refuse, _orElse_};
 ghost use Rattle.loc_calls.specs.Stores.{ragged, anyStores, openRefusal, settled};
-ghost use Rattle.loc_calls.specs.Calls.{tooSmall};
+ghost use Rattle.loc_calls.specs.Calls.{tooSmall, firstRefusal};
 ghost use Rattle.loc_calls.specs.Areas.{areas};
 ghost use Rattle.loc_store.specs.Areas.{Sized};
 ghost use Rattle.loc_store.specs.Plans.{lengthPlaces};
@@ -98,8 +97,7 @@ fn settled(kind: Kind, slots: &[u8], rows: &[u8], checkpoints: &[u8]) -> bool
 
 // 1, then 6: what append, truncation, reading and audit begin with.
 pub fn call_refusal(kind: Kind, slots: &[u8], rows: &[u8], checkpoints: &[u8]) -> u64
-    ensures { λ r. ⌜ r ≡ refuse (tooSmall (areas (now (slots .entry)) (now (rows .entry)) (now (checkpoints .entry)))) 1
-        orElse refuse (not (settled kind (areas (now (slots .entry)) (now (rows .entry)) (now (checkpoints .entry))))) 6 ⌝ }
+    ensures { λ r. ⌜ r ≡ firstRefusal kind (areas (now (slots .entry)) (now (rows .entry)) (now (checkpoints .entry))) ⌝ }
 {
     if too_small(slots, rows, checkpoints) {
         return 1;
