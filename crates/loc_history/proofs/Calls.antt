@@ -22,7 +22,7 @@ use Rattle.loc_calls.specs.Stores.{write, step, run, newEnds, staged}
 use Rattle.loc_calls.specs.Reading.{within, wordsFor}
 use Rattle.loc_calls.specs.Calls.{unlessRefused, isOpening, refusal, places, placeCount, value, buffer, areasAfter, call}
 use Rattle.loc_calls.proofs.Gathered.{AllValid, valid-append}
-use Rattle.loc_calls.proofs.Settled.{sizes-run, opening-accepted, refusal-is}
+use Rattle.loc_calls.proofs.Settled.{sizes-step, sizes-run, opening-accepted, refusal-is}
 use Rattle.loc_calls.proofs.Chains.{lens, spans, Chained, chained-at, Good}
 use Rattle.loc_leaf.proofs.Refusals.{orElse-right, orElse-zero, refuse-zero}
 use Rattle.loc_calls.proofs.Batches.{SpansOf, all-valid, Fits, batch-tested, batch-fits}
@@ -123,6 +123,11 @@ sizes-call k s c a = go (refusal k c a)
     go : (n : ℕ) → sizes (unlessRefused n (run s (places k c a) a) a) ≡ sizes a
     go zero = sizes-run s (places k c a) a
     go (suc n) = refl
+
+pub sizes-bytes : (n : ℕ) (junk : Three Bytes) (a : Areas) → sizes (unlessRefused n (step (write junk) a) a) ≡ sizes a
+unfolding unlessRefused
+sizes-bytes zero junk a = sizes-step (write junk) a
+sizes-bytes (suc n) junk a = refl
 
 module _ (k : Kind) (a : Areas) (L : List Rec) (c : Call) (n : ℕ) (p : refusal k c a ≡ n) (q : bookRefusal k (sizes a) L c ≡ n) where
   finishes : (n ≡ 0 → Steady k (run (placeCount c) (places k c a) a) (bookNext k L c)) → ((m : ℕ) → n ≡ suc m → Steady k a L)

@@ -1,6 +1,6 @@
 -- Demand 3, proved: after every lawful history the index answers as the book does and holds its list.
 -- By steps over the events: areas are pending while an opening is awaited, and steady elsewhere.
-use Prim.Native.Nat.{ℕ, zero, suc, _+_, _*_}
+use Prim.Native.Nat.{ℕ, _+_, _*_}
 use mathlib.Core.Path.{_≡_, refl, sym, ap, _∙_, subst}
 use mathlib.Core.Bool.{Bool, true, false, true≢false}
 use mathlib.Core.List.{List, [], _∷_, _++_, map}
@@ -10,7 +10,7 @@ use Rattle.loc_calls.specs.Areas.{Three, Areas, sizes}
 use Rattle.loc_calls.specs.Table.{Entry, Call, opening, append, truncate, read, table}
 use Rattle.loc_calls.specs.Stores.{write, step, run, staged}
 use Rattle.loc_calls.specs.Calls.{unlessRefused, isOpening, refusal, placeCount, value, createPlaces, create}
-use Rattle.loc_calls.proofs.Settled.{sizes-step, sizes-run, created, created-full}
+use Rattle.loc_calls.proofs.Settled.{sizes-run, created, created-full}
 use Rattle.loc_calls.proofs.Chains.{Chained, good-nil}
 use Rattle.loc_calls.proofs.Appending.{wholeEnds}
 use Rattle.loc_calls.proofs.Reading.{slots-are, rows-are, checkpoints-are}
@@ -19,10 +19,10 @@ use Rattle.loc_history.specs.Book.{Rec, recOf, bookEnds, bookRefusal, bo
 use Rattle.loc_history.specs.History.{Event, finished, torn, tornBytes, indexAfter, indexGives, indexReplies, indexAtEnd, bookAfter, bookGives, bookReplies, bookAtEnd, LawfulCall, Awaited, BeforeEnd, LawfulEvent, isTear, awaits, Lawful, Sized, AllSized, Demand3, placed, Stores, Demand3List, AuditsTo1, OpeningReports}
 use Rattle.loc_history.proofs.BookLaws.{ends-are}
 use Rattle.loc_history.proofs.Steady.{Steady, Pending, steady-pending}
-use Rattle.loc_history.proofs.Calls.{After, AfterTorn, sizes-call, finished-open, torn-open, finished-call, torn-call, torn-bytes}
+use Rattle.loc_history.proofs.Calls.{After, AfterTorn, sizes-call, sizes-bytes, finished-open, torn-open, finished-call, torn-call, torn-bytes}
 
 -- pending while an opening is awaited, steady elsewhere
-unfoldable Ready : Bool → Kind → Areas → List Rec → Type 0
+unfoldable pub Ready : Bool → Kind → Areas → List Rec → Type 0
 Ready true k a L = Pending k a L
 Ready false k a L = Steady k a L
 
@@ -31,7 +31,7 @@ unfolding Ready
 ready-pending true k a L r = r
 ready-pending false k a L r = steady-pending k a L r
 
-ready-steady : (w : Bool) (k : Kind) (a : Areas) (L : List Rec) (c : Call) → Ready w k a L → Awaited w c → isOpening c ≡ false → Steady k a L
+pub ready-steady : (w : Bool) (k : Kind) (a : Areas) (L : List Rec) (c : Call) → Ready w k a L → Awaited w c → isOpening c ≡ false → Steady k a L
 unfolding Ready Awaited
 ready-steady true k a L c r h q = absurd (true≢false (sym (h refl) ∙ q))
 ready-steady false k a L c r h q = r
@@ -55,12 +55,12 @@ module _ (w : Bool) (k : Kind) (a : Areas) (L : List Rec) (r : Ready w k a L) wh
 
 -- ---- one event
 
-record Done (w : Bool) (k : Kind) (a : Areas) (L : List Rec) (e : Event) : Type 0 where
-  gives : indexGives k a e ≡ bookGives k (sizes a) L e
-  ready : Ready (isTear e) k (indexAfter k a e) (bookAfter k (sizes a) L e)
-  same : sizes (indexAfter k a e) ≡ sizes a
+pub record Done (w : Bool) (k : Kind) (a : Areas) (L : List Rec) (e : Event) : Type 0 where
+  pub gives : indexGives k a e ≡ bookGives k (sizes a) L e
+  pub ready : Ready (isTear e) k (indexAfter k a e) (bookAfter k (sizes a) L e)
+  pub same : sizes (indexAfter k a e) ≡ sizes a
 
-done : (w : Bool) (k : Kind) (a : Areas) (L : List Rec) (e : Event) → Ready w k a L → LawfulEvent k (sizes a) w L e → Done w k a L e
+pub done : (w : Bool) (k : Kind) (a : Areas) (L : List Rec) (e : Event) → Ready w k a L → LawfulEvent k (sizes a) w L e → Done w k a L e
 unfolding indexGives bookGives indexAfter LawfulEvent isTear Ready
 done w k a L (finished c) r h =
     let f : After k a L c = after-finished w k a L r c (h .0) (h .1) in
@@ -73,12 +73,8 @@ done w k a L (tornBytes b junk) r h =
     record {
       gives = refl;
       ready = unfold bookAfter in steady-pending k (unlessRefused (refusal k (append b) a) (step (write junk) a) a) L (torn-bytes k a L t (refusal k (append b) a) junk);
-      same = same (refusal k (append b) a);
+      same = sizes-bytes (refusal k (append b) a) junk a;
     }
-  where
-    same : (n : ℕ) → sizes (unlessRefused n (step (write junk) a) a) ≡ sizes a
-    same zero = unfold unlessRefused in sizes-step (write junk) a
-    same (suc n) = unfold unlessRefused in refl
 
 -- ---- all events
 
@@ -102,43 +98,41 @@ module _ (k : Kind) where
       subst (λ (z : Three ℕ). Ready (awaits (isTear e) es) k (indexAtEnd k (indexAfter k a e) es) (bookAtEnd k z N es)) (d .same)
       (ready-after es (isTear e) (indexAfter k a e) N (d .ready) (subst (λ (z : Three ℕ). Lawful k z (isTear e) N es) (sym (d .same)) (h .1)))
 
--- ---- from a creation on
+-- ---- a creation
 
-module _ (k : Kind) (a : Areas) (z : AllSized a) (es : List Event) (lawful : Lawful k (sizes a) false [] es) where
-  abbrev start : Areas
-  start = run 3 createPlaces a
-
-  created-here : (create a) .areas ≡ start
+module _ (a : Areas) (z : AllSized a) where
+  created-here : (create a) .areas ≡ run 3 createPlaces a
   unfolding Sized
   created-here = created a (z .slots) (z .rows) (z .checkpoints)
 
-  -- it leaves the empty list
-  steady : Steady k start []
+  -- it keeps the sizes, and leaves the empty list
+  pub created-sizes : sizes ((create a) .areas) ≡ sizes a
+  created-sizes = rw created-here (sizes-run 3 createPlaces a)
+
+  pub created-steady : (k : Kind) → Steady k ((create a) .areas) []
   unfolding Sized
-  steady = record {
+  created-steady k = rw created-here (record {
     E = [];
     full = created-full a (z .slots) (z .rows) (z .checkpoints) k;
     is = refl;
     good = good-nil;
-  }
+  })
 
-  start-sizes : sizes start ≡ sizes a
-  start-sizes = sizes-run 3 createPlaces a
+  pub created-ready : (k : Kind) → Ready false k ((create a) .areas) []
+  unfolding Ready
+  created-ready k = created-steady k
 
-  lawful-there : Lawful k (sizes start) false [] es
-  lawful-there = subst (λ (x : Three ℕ). Lawful k x false [] es) (sym start-sizes) lawful
+-- ---- from a creation on
+
+module _ (k : Kind) (a : Areas) (z : AllSized a) (es : List Event) (lawful : Lawful k (sizes a) false [] es) where
+  lawful-there : Lawful k (sizes ((create a) .areas)) false [] es
+  lawful-there = rw (created-sizes a z) lawful
 
   all-replies : indexReplies k ((create a) .areas) es ≡ bookReplies k (sizes a) [] es
-  all-replies =
-      ap (λ (b : Areas). indexReplies k b es) created-here
-      ∙ replies-are k es false start [] (unfold Ready in steady) lawful-there
-      ∙ ap (λ (x : Three ℕ). bookReplies k x [] es) start-sizes
+  all-replies = rw (created-sizes a z) at (replies-are k es false ((create a) .areas) [] (created-ready a z k) lawful-there)
 
   at-end : Ready (awaits false es) k (indexAtEnd k ((create a) .areas) es) (bookAtEnd k (sizes a) [] es)
-  at-end =
-      subst (λ (b : Areas). Ready (awaits false es) k (indexAtEnd k b es) (bookAtEnd k (sizes a) [] es)) (sym created-here)
-      (subst (λ (x : Three ℕ). Ready (awaits false es) k (indexAtEnd k start es) (bookAtEnd k x [] es)) start-sizes
-      (ready-after k es false start [] (unfold Ready in steady) lawful-there))
+  at-end = rw (created-sizes a z) at (ready-after k es false ((create a) .areas) [] (created-ready a z k) lawful-there)
 
 pub demand3 : Demand3
 unfolding Demand3
@@ -147,7 +141,7 @@ demand3 k a z es lawful = all-replies k a z es lawful
 -- ---- the list
 
 -- a chained list is its records, placed
-placed-is : (b s : ℕ) (E : List Entry) → Chained b s E → E ≡ placed b s (map recOf E)
+pub placed-is : (b s : ℕ) (E : List Entry) → Chained b s E → E ≡ placed b s (map recOf E)
 unfolding Chained placed recOf
 placed-is b s [] h = refl
 placed-is b s (e ∷ E) h =
@@ -155,7 +149,7 @@ placed-is b s (e ∷ E) h =
     (ap (λ (x : ℕ). record { start = x; len = e .len; spanStart = e .spanStart; spans = e .spans }) (h .0) ∙ ap (λ (x : ℕ). record { start = b; len = e .len; spanStart = x; spans = e .spans }) (h .1))
     ∙ ap (λ (l : List Entry). record { start = b; len = e .len; spanStart = s; spans = e .spans } ∷ l) (placed-is (b + e .len) (s + 8 * e .spans) E (h .2))
 
-steady-stores : (k : Kind) (a : Areas) (L : List Rec) → Steady k a L → Stores k a L
+pub steady-stores : (k : Kind) (a : Areas) (L : List Rec) → Steady k a L → Stores k a L
 steady-stores k a L t = record {
   ends = unfold wholeEnds in (rw (t .full .slots .end, t .full .rows .end, t .full .checkpoints .end) refl) ∙ sym (ends-are k (t .E) (t .full .valid)) ∙ ap (bookEnds k) (sym (t .is));
   pieces =
