@@ -10,10 +10,12 @@ use crate::batch::fields;
 use crate::batch::span_counts;
 use crate::batch::starts_in;
 use crate::batch::whole_in;
+use crate::listing::put_listing;
 use loc_leaf::Answer;
 use loc_leaf::Kind;
 use loc_lent::calls;
 use loc_lent::calls::Storing;
+use loc_lent::parts::first_bytes;
 use loc_lent::parts::first_counts;
 use loc_lent::parts::first_words;
 use loc_lent::parts::part_words;
@@ -59,6 +61,27 @@ fn append(
     )
 }
 
+fn append_listing(
+    letter: u8,
+    places: u64,
+    list: &[u64; 1040],
+    n: usize,
+    slots: &mut [u8],
+    rows: &mut [u8],
+    checkpoints: &mut [u8],
+) -> Answer {
+    let mut text = [0u8; 512];
+    let k = put_listing(list, n, &mut text);
+    calls::append_listing(
+        letter == b'l',
+        places,
+        slots,
+        rows,
+        checkpoints,
+        first_bytes(&text, k),
+    )
+}
+
 fn storing(letter: u8) -> Storing {
     match letter {
         b'c' => Storing::Create,
@@ -83,6 +106,7 @@ fn on_areas(
 ) -> Answer {
     match letter {
         b'a' | b'A' => append(kind, letter, places, list, n, slots, rows, checkpoints),
+        b'l' | b'L' => append_listing(letter, places, list, n, slots, rows, checkpoints),
         b'r' => calls::read(kind, slots, rows, checkpoints, wanted(list, n), answers),
         b'u' => calls::audit(kind, slots, rows, checkpoints),
         _ => calls::store(

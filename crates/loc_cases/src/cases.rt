@@ -30,6 +30,7 @@ fn run_of(letter: u8) -> u8 {
     match letter {
         b'o' => b'O',
         b'a' => b'A',
+        b'l' => b'L',
         _ => b'T',
     }
 }
@@ -37,7 +38,7 @@ fn run_of(letter: u8) -> u8 {
 fn places_of(letter: u8) -> u64 {
     match letter {
         b'o' => 6,
-        b'a' => 4,
+        b'a' | b'l' => 4,
         _ => 3,
     }
 }

@@ -4,6 +4,7 @@ mod areas;
 mod batch;
 mod call;
 mod cases;
+mod listing;
 mod print;
 mod script;
 

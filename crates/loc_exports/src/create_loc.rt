@@ -6,6 +6,7 @@ ghost use Rattle.loc_calls.specs.Areas.{areas};
 ghost use Rattle.loc_calls.specs.Table.{batch, opening, append, truncate, read};
 ghost use Rattle.loc_calls.specs.Calls.{call, create, audit};
 ghost use Rattle.loc_calls.specs.Promises.{Stored, Read};
+ghost use Rattle.loc_parse.specs.Import.{appendListing};
 ghost use Rattle.loc_exports.specs.Given.{given};
 
 // Creation: 1.
@@ -111,6 +112,41 @@ pub extern "C" fn create_loc_append_run(
         span_counts,
         places,
     );
+    *value = a.value;
+    a.number
+}
+
+// A listing appended: 1, 6; 18 to 20; 8 to 13.
+#[no_mangle]
+pub extern "C" fn create_loc_append_listing(
+    slots: &mut [u8],
+    rows: &mut [u8],
+    checkpoints: &mut [u8],
+    text: &[u8],
+    value: &mut u64,
+) -> u64
+    ensures { λ r. ⌜ Stored (appendListing 4 (now (text .entry)) (areas (now (slots .entry)) (now (rows .entry)) (now (checkpoints .entry))))
+        (given r (now (value .exit))) (areas (now (slots .exit)) (now (rows .exit)) (now (checkpoints .exit))) ⌝ }
+{
+    let a = loc_index::create_loc::append_listing(slots, rows, checkpoints, text);
+    *value = a.value;
+    a.number
+}
+
+// A listing appended, its first places only.
+#[no_mangle]
+pub extern "C" fn create_loc_append_listing_run(
+    slots: &mut [u8],
+    rows: &mut [u8],
+    checkpoints: &mut [u8],
+    text: &[u8],
+    places: u64,
+    value: &mut u64,
+) -> u64
+    ensures { λ r. ⌜ Stored (appendListing places (now (text .entry)) (areas (now (slots .entry)) (now (rows .entry)) (now (checkpoints .entry))))
+        (given r (now (value .exit))) (areas (now (slots .exit)) (now (rows .exit)) (now (checkpoints .exit))) ⌝ }
+{
+    let a = loc_index::create_loc::append_listing_run(slots, rows, checkpoints, text, places);
     *value = a.value;
     a.number
 }

@@ -6,6 +6,7 @@ ghost use Rattle.loc_calls.specs.Areas.{areas};
 ghost use Rattle.loc_calls.specs.Table.{batch, opening, append, truncate, read};
 ghost use Rattle.loc_calls.specs.Calls.{call, create, audit};
 ghost use Rattle.loc_calls.specs.Promises.{Stored, Read};
+ghost use Rattle.loc_parse.specs.Import.{appendListing};
 use loc_leaf::Answer;
 use loc_leaf::Kind;
 
@@ -80,6 +81,31 @@ pub fn append(
         span_counts,
         4,
     )
+}
+
+// Refuses by 1, 6; line by line 18, 19, 20; then as append. The value is the count that the areas then hold.
+pub fn append_listing_run(
+    slots: &mut [u8],
+    rows: &mut [u8],
+    checkpoints: &mut [u8],
+    text: &[u8],
+    places: u64,
+) -> Answer
+    ensures { λ r. ⌜ Stored (appendListing places (now (text .entry)) (areas (now (slots .entry)) (now (rows .entry)) (now (checkpoints .entry)))) r (areas (now (slots .exit)) (now (rows .exit)) (now (checkpoints .exit))) ⌝ }
+{
+    loc_import::append_listing_run(slots, rows, checkpoints, text, places)
+}
+
+// Refuses by 1, 6; line by line 18, 19, 20; then as append. The value is the count.
+pub fn append_listing(
+    slots: &mut [u8],
+    rows: &mut [u8],
+    checkpoints: &mut [u8],
+    text: &[u8],
+) -> Answer
+    ensures { λ r. ⌜ Stored (appendListing 4 (now (text .entry)) (areas (now (slots .entry)) (now (rows .entry)) (now (checkpoints .entry)))) r (areas (now (slots .exit)) (now (rows .exit)) (now (checkpoints .exit))) ⌝ }
+{
+    append_listing_run(slots, rows, checkpoints, text, 4)
 }
 
 // Refuses by 1, 6; 14. The value is the count that the areas then hold.

@@ -91,6 +91,21 @@ pub fn append(
     }
 }
 
+// A listing, which the paired kind alone takes.
+pub fn append_listing(
+    whole: bool,
+    places: u64,
+    slots: &mut [u8],
+    rows: &mut [u8],
+    checkpoints: &mut [u8],
+    text: &[u8],
+) -> Answer {
+    if whole {
+        return create_loc::append_listing(slots, rows, checkpoints, text);
+    }
+    create_loc::append_listing_run(slots, rows, checkpoints, text, places)
+}
+
 pub fn read(
     kind: Kind,
     slots: &[u8],

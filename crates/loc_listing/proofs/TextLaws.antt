@@ -3,14 +3,16 @@
 use Prim.Native.Nat.{ℕ, zero, suc, _+_, _-_, _*_, _/_, _%_, _^_, _≤_, _<_}
 use mathlib.Core.Path.{_≡_, refl, sym, ap, _∙_, subst}
 use mathlib.Core.Bool.{true, false, _&&_}
-use mathlib.Core.List.{List, [], _∷_, _++_, append-assoc}
+use mathlib.Core.List.{List, [], _∷_, _++_, append-assoc, append-nil}
+use native.Mathlib.Nat.{add-zero, add-suc}
 use native.Mathlib.Numerals.{add-one}
 use native.Mathlib.Decide.{decLe}
 use native.Mathlib.Omega.{arith}
 use lib.Dec.{leb, ltb}
-use lib.ListN.{length, getD, set, length-append}
-use lib.Seq.{sets}
+use lib.ListN.{length, take, drop, getD, set, length-append, length-drop, take-append-drop, drop-of-length-le}
+use lib.Seq.{sets, take-suc, take-all, drop-set-add, take-set-le}
 use borrow.Author.Tests.{lt-ltb, le-ltb, lt-leb, le-leb, ltb-true, leb-true}
+use borrow.Rule.Slice.PartMut.{putMid}
 use Rattle.loc_leaf.proofs.Booleans.{both-left, both-right}
 use Rattle.loc_listing.specs.Text.{digits, decimal, line, recordLine, recordLines, refusedLine, fits, windowText, refusedText, Put}
 
@@ -29,6 +31,40 @@ put-byte l at b = record { buffer = refl; place = refl }
 
 pub put-nothing : (l : List ℕ) (at : ℕ) → Put l at [] l at
 put-nothing l at = record { buffer = refl; place = omega arith }
+
+-- ---- bytes one by one
+
+pub copied-more : (xs l l₁ : List ℕ) (i : ℕ) → i < length xs → Put l 0 (take i xs) l₁ i → Put l 0 (take (i + 1) xs) (set l₁ i (getD xs i 0)) (i + 1)
+copied-more xs l l₁ i h p =
+    rw (add-one i, take-suc xs i 0 h)
+    (subst (λ (j : ℕ). Put l 0 (take i xs ++ (getD xs i 0 ∷ [])) (set l₁ i (getD xs i 0)) j) (add-one i) (put-then _ _ p (put-byte l₁ i (getD xs i 0))))
+
+pub copied-all : (xs l l₁ : List ℕ) (i : ℕ) → i ≤ length xs → length xs ≤ i → Put l 0 (take i xs) l₁ i → Put l 0 xs l₁ i × (i ≡ length xs)
+copied-all xs l l₁ i h g p = (rw (take-all i xs g) at p, omega arith)
+
+-- ---- a part of the buffer, from a place on, lent for a text
+
+sets-tail : (xs : List ℕ) (a j : ℕ) (vs : List ℕ) → take a xs ++ sets (drop a xs) j vs ≡ sets xs (a + j) vs
+sets-tail xs a j [] = take-append-drop a xs
+sets-tail xs a j (v ∷ vs) =
+    let p : take a (set xs (a + j) v) ≡ take a xs = take-set-le a xs (a + j) v (omega arith) in
+    rw (← drop-set-add a xs j v, ← p, ← add-suc) (sets-tail (set xs (a + j) v) a (suc j) vs)
+
+module _ (xs : List ℕ) (a : ℕ) where
+  rest-long : length (drop a xs) ≤ length xs - a
+  rest-long = rw length-drop (omega arith)
+
+  part-is : take (length xs - a) (drop a xs) ≡ drop a xs
+  part-is = take-all (length xs - a) (drop a xs) rest-long
+
+  pub part-long : length (take (length xs - a) (drop a xs)) ≡ length xs - a
+  part-long = rw (part-is, length-drop a xs) refl
+
+  pub put-part : (text ys : List ℕ) (r : ℕ) → Put (take (length xs - a) (drop a xs)) 0 text ys r → Put xs a text (putMid a (length xs - a) xs ys) (a + r)
+  put-part text ys r p = record { buffer = whole; place = omega (arith, p .place) }
+    where
+      whole : putMid a (length xs - a) xs ys ≡ sets xs a text
+      whole = rw (drop-of-length-le (drop a xs) rest-long, append-nil, p .buffer, part-is, sets-tail xs a 0 text, add-zero) refl
 
 -- ---- digits
 
@@ -113,21 +149,21 @@ module _ (first words n room : ℕ) where
 
 module _ (first n : ℕ) (ws out : List ℕ) where
   pub window-fits : (out₁ : List ℕ) (r : ℕ) → fits first (length ws) n (length out) ≡ true → Put out 0 (recordLines first ws n) out₁ r → r ≤ 126 * n
-      → Put out 0 (windowText first ws n (length out)) out₁ r × (r ≤ length out)
+      → Put out 0 (windowText first ws n (length out)) out₁ r × (r ≤ length out) × (r ≤ 126 * n)
   unfolding windowText
-  window-fits out₁ r e p h = (rw e p, omega (arith, fit-room first (length ws) n (length out) e, h))
+  window-fits out₁ r e p h = (rw e p, omega (arith, fit-room first (length ws) n (length out) e), h)
 
-  pub window-none : fits first (length ws) n (length out) ≡ false → Put out 0 (windowText first ws n (length out)) out 0 × (0 ≤ length out)
+  pub window-none : fits first (length ws) n (length out) ≡ false → Put out 0 (windowText first ws n (length out)) out 0 × (0 ≤ length out) × (0 ≤ 126 * n)
   unfolding windowText
-  window-none e = (rw e (put-nothing out 0), omega arith)
+  window-none e = (rw e (put-nothing out 0), omega arith, omega arith)
 
-pub refused-none : (number : ℕ) (out : List ℕ) → length out < 29 → Put out 0 (refusedText number (length out)) out 0 × (0 ≤ length out)
+pub refused-none : (number : ℕ) (out : List ℕ) → length out < 29 → Put out 0 (refusedText number (length out)) out 0 × (0 ≤ length out) × (0 ≤ 29)
 unfolding refusedText
-refused-none number out h = (rw (lt-leb 29 (length out) h) (put-nothing out 0), omega arith)
+refused-none number out h = (rw (lt-leb 29 (length out) h) (put-nothing out 0), omega arith, omega arith)
 
 -- the bytes of `refused` and a space, then the number
-pub refused-put : (number : ℕ) (out out₁ : List ℕ) (r : ℕ) → 29 ≤ length out → Put (sets out 0 (114 ∷ 101 ∷ 102 ∷ 117 ∷ 115 ∷ 101 ∷ 100 ∷ 32 ∷ [])) 8 (decimal number ++ (10 ∷ [])) out₁ r
-    → r ≤ 8 + 21 → Put out 0 (refusedText number (length out)) out₁ r × (r ≤ length out)
+pub refused-put : (number : ℕ) (out out₁ out₂ : List ℕ) (at r : ℕ) → 29 ≤ length out → Put out 0 (114 ∷ 101 ∷ 102 ∷ 117 ∷ 115 ∷ 101 ∷ 100 ∷ 32 ∷ []) out₁ at × (at ≡ 8)
+    → Put out₁ at (decimal number ++ (10 ∷ [])) out₂ r → r ≤ at + 21 → Put out 0 (refusedText number (length out)) out₂ r × (r ≤ length out) × (r ≤ 29)
 unfolding refusedText refusedLine
-refused-put number out out₁ r h p l =
-    (rw (le-leb 29 (length out) h) (put-then (114 ∷ 101 ∷ 102 ∷ 117 ∷ 115 ∷ 101 ∷ 100 ∷ 32 ∷ []) (decimal number ++ (10 ∷ [])) (record { buffer = refl; place = refl }) p), omega arith)
+refused-put number out out₁ out₂ at r h p q l =
+    (rw (le-leb 29 (length out) h) (put-then _ _ (p .0) q), omega (arith, p .1), omega (arith, p .1))

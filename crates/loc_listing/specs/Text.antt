@@ -2,9 +2,9 @@
 -- Fields are parted by one space and each line is ended by a line feed.
 use Prim.Native.Nat.{ℕ, zero, suc, _+_, _*_, _/_, _%_, _^_}
 use mathlib.Core.Path.{_≡_}
-use mathlib.Core.Bool.{Bool, cond, _&&_}
+use mathlib.Core.Bool.{Bool, true, false, cond, _&&_}
 use mathlib.Core.List.{List, [], _∷_, _++_}
-use lib.Dec.{leb, ltb}
+use lib.Dec.{leb, ltb, eqb}
 use lib.ListN.{length, getD}
 use lib.Seq.{sets}
 
@@ -21,6 +21,22 @@ unfoldable pub line : List ℕ → List ℕ
 line [] = 10 ∷ []
 line (n ∷ []) = decimal n ++ (10 ∷ [])
 line (n ∷ m ∷ ns) = decimal n ++ (32 ∷ line (m ∷ ns))
+
+-- the line of names: record body_start body_len span_start span_len spans
+unfoldable pub names : List ℕ
+names =
+    114 ∷ 101 ∷ 99 ∷ 111 ∷ 114 ∷ 100 ∷ 32
+    ∷ 98 ∷ 111 ∷ 100 ∷ 121 ∷ 95 ∷ 115 ∷ 116 ∷ 97 ∷ 114 ∷ 116 ∷ 32
+    ∷ 98 ∷ 111 ∷ 100 ∷ 121 ∷ 95 ∷ 108 ∷ 101 ∷ 110 ∷ 32
+    ∷ 115 ∷ 112 ∷ 97 ∷ 110 ∷ 95 ∷ 115 ∷ 116 ∷ 97 ∷ 114 ∷ 116 ∷ 32
+    ∷ 115 ∷ 112 ∷ 97 ∷ 110 ∷ 95 ∷ 108 ∷ 101 ∷ 110 ∷ 32
+    ∷ 115 ∷ 112 ∷ 97 ∷ 110 ∷ 115 ∷ 10 ∷ []
+
+-- the bytes ys begin with xs
+unfoldable pub begins : List ℕ → List ℕ → Bool
+begins [] ys = true
+begins (x ∷ xs) [] = false
+begins (x ∷ xs) (y ∷ ys) = eqb x y && begins xs ys
 
 -- record number, body start and length, span start and length in bytes, span count: of the answer i of a reading that begins at record `first`
 unfoldable pub recordLine : ℕ → List ℕ → ℕ → List ℕ
@@ -41,6 +57,10 @@ refusedLine n = 114 ∷ 101 ∷ 102 ∷ 117 ∷ 115 ∷ 101 ∷ 100 ∷ 32 ∷ (
 -- a line has at most 126 bytes: six numbers of at most 20, each ended by one byte
 unfoldable pub fits : ℕ → ℕ → ℕ → ℕ → Bool
 fits first words n room = leb (126 * n) room && leb (6 * n) words && ltb (first + n) (2 ^ 64)
+
+-- the line of names has 53 bytes
+unfoldable pub namesText : ℕ → List ℕ
+namesText room = cond (leb 53 room) names []
 
 unfoldable pub windowText : ℕ → List ℕ → ℕ → ℕ → List ℕ
 windowText first ws n room = cond (fits first (length ws) n room) (recordLines first ws n) []

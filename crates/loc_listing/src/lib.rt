@@ -1,10 +1,25 @@
 // The text of a listing, put into a buffer that the caller lends.
 // Where a buffer is too short nothing is put, and the answer is 0.
+pub mod names;
+
 ghost use mathlib.Core.List.{[], _∷_, _++_};
 ghost use Prim.Native.Nat.{_+_, _*_, _^_, _≤_, _<_};
 ghost use mathlib.Core.Path.{_≡_};
 ghost use lib.ListN.{length};
 ghost use Rattle.loc_listing.specs.Text.{digits, decimal, line, recordLines, windowText, refusedText, fits, Put};
+
+// Bytes copied to the start of a buffer. The answer is how many there are.
+fn put_bytes(from: &[u8], out: &mut [u8]) -> usize
+    requires { ⌜ length (now from) ≤ length (now out) ⌝ }
+    ensures { λ r. ⌜ Put (now (out .entry)) 0 (now (from .entry)) (now (out .exit)) r × (r ≡ length (now (from .entry))) ⌝ }
+{
+    let mut i: usize = 0;
+    while i < from.len() {
+        out[i] = from[i];
+        i += 1;
+    }
+    i
+}
 
 // At most `most` digits of n at a place; the answer is the place after them.
 fn put_digits(out: &mut [u8], at: usize, n: u64, most: usize) -> usize
@@ -93,7 +108,7 @@ fn lines_fit(first: u64, words: usize, n: usize, room: usize) -> bool
 
 // A window's text: a line for each of n records from `first` on, by the words of a paired reading. The answer is how many bytes it has.
 pub fn window_text(first: u64, answers: &[u64], n: usize, out: &mut [u8]) -> usize
-    ensures { λ r. ⌜ Put (now (out .entry)) 0 (windowText first (now (answers .entry)) n (length (now (out .entry)))) (now (out .exit)) r × (r ≤ length (now (out .entry))) ⌝ }
+    ensures { λ r. ⌜ Put (now (out .entry)) 0 (windowText first (now (answers .entry)) n (length (now (out .entry)))) (now (out .exit)) r × (r ≤ length (now (out .entry))) × (r ≤ 126 * n) ⌝ }
 {
     if lines_fit(first, answers.len(), n, out.len()) {
         return put_lines(first, answers, n, out);
@@ -103,18 +118,11 @@ pub fn window_text(first: u64, answers: &[u64], n: usize, out: &mut [u8]) -> usi
 
 // The line of a refusal. The answer is how many bytes it has.
 pub fn refused_text(number: u64, out: &mut [u8]) -> usize
-    ensures { λ r. ⌜ Put (now (out .entry)) 0 (refusedText number (length (now (out .entry)))) (now (out .exit)) r × (r ≤ length (now (out .entry))) ⌝ }
+    ensures { λ r. ⌜ Put (now (out .entry)) 0 (refusedText number (length (now (out .entry)))) (now (out .exit)) r × (r ≤ length (now (out .entry))) × (r ≤ 29) ⌝ }
 {
     if out.len() < 29 {
         return 0;
     }
-    out[0] = b'r';
-    out[1] = b'e';
-    out[2] = b'f';
-    out[3] = b'u';
-    out[4] = b's';
-    out[5] = b'e';
-    out[6] = b'd';
-    out[7] = b' ';
-    put_field(out, 8, number, b'\n')
+    let at = put_bytes(b"refused ", out);
+    put_field(out, at, number, b'\n')
 }

@@ -31,7 +31,7 @@ narrow zero c h = tt
 narrow (suc n) c h = (h, narrow n c h)
 
 -- to unfold this is to unfold all that a history is computed by
-unfoldable everything : Type 0
+unfoldable pub everything : Type 0
 unfolding number bytes numberAt store answer counted storeLength storePast pieces fill published stridesRefusal slot storedAsZero needsRow inline slotAt checkpointRule row rowNumber rowValue rowList ascending lastNumber rowsUpTo rowFor hasRow lookup slotValue matches cuts cutFor sizes count valueOf bodyAfter spanAfter zipped entries uneven spanless breaks entryRefusal entriesRefusal endPast batchRefusal table step run differing truncatePlaces nextRow holdsNext cutRule ruledCount ruled openPlaces ragged openRefusal stores anyStores settled checkpoint gather rowOf checkpointOf staged newEnd newEnds appendPlaces sumAfter allAfter lookupAt has valueIn valueAt stridesAfter spansAfter checkpointAt windowEnd lookedAt within rowMissing anyMissing words wordsFor answered found unlessRefused tooSmall unread isOpening refusal places value lent buffer areasAfter call createPlaces create flatten recOf records lenSum spanSum bodyEnd spanEnd checkpointCount takesRow rowCount bookEnds bookRefusal bookNext recordWords bookWords bookReply longest longestPart appendTorn truncateTorn bookTorn indexAfter indexGives indexReplies bookAfter bookGives bookReplies FirstAt StartsAt16 CarriesOn EndsBelow Narrow LawfulCall Awaited BeforeEnd LawfulEvent isTear Lawful Sized
 everything = Unit
 

@@ -1,3 +1,4 @@
 pub mod Replies
 pub mod Lawful
 pub mod Broken
+pub mod Listed

@@ -1,0 +1,83 @@
+// A listing appended to a paired index: its text is read once, and what it says is appended as one batch.
+// An inner crate; the call itself asks nothing of its caller.
+ghost use Rattle.loc_calls.specs.Areas.{areas};
+ghost use Rattle.loc_calls.specs.Promises.{Stored};
+ghost use Rattle.loc_parse.specs.Import.{appendListing};
+ghost use Rattle.loc_parse.specs.Lists.{Room};
+use loc_batch::run::append_settled;
+use loc_leaf::Answer;
+use loc_leaf::Kind;
+use loc_parse::lines::parse;
+use loc_store::check::call_refusal;
+use loc_store::plan::piece_count;
+
+// With four lists lent for the batch.
+fn append_text(
+    slots: &mut [u8],
+    rows: &mut [u8],
+    checkpoints: &mut [u8],
+    text: &[u8],
+    starts: &mut [u64],
+    lens: &mut [u64],
+    span_starts: &mut [u64],
+    span_counts: &mut [u32],
+    places: u64,
+) -> Answer
+    requires { ⌜ Room (now starts) (now lens) (now «span_starts») (now «span_counts») ⌝ }
+    ensures { λ r. ⌜ Stored (appendListing places (now (text .entry)) (areas (now (slots .entry)) (now (rows .entry)) (now (checkpoints .entry))))
+        r (areas (now (slots .exit)) (now (rows .exit)) (now (checkpoints .exit))) ⌝ }
+{
+    let first = call_refusal(Kind::Paired, slots, rows, checkpoints);
+    if first != 0 {
+        return Answer {
+            number: first,
+            value: 0,
+        };
+    }
+    let count = piece_count(slots, 2) as u64;
+    let taken = parse(count, text, starts, lens, span_starts, span_counts);
+    let number = taken.number;
+    if number != 0 {
+        return Answer { number, value: 0 };
+    }
+    let n = taken.n;
+    append_settled(
+        Kind::Paired,
+        slots,
+        rows,
+        checkpoints,
+        &starts[..n],
+        &lens[..n],
+        &span_starts[..n],
+        &span_counts[..n],
+        places,
+    )
+}
+
+// 1, 6; 18 to 20, line by line; then as append. The value is the count that the areas then hold.
+pub fn append_listing_run(
+    slots: &mut [u8],
+    rows: &mut [u8],
+    checkpoints: &mut [u8],
+    text: &[u8],
+    places: u64,
+) -> Answer
+    ensures { λ r. ⌜ Stored (appendListing places (now (text .entry)) (areas (now (slots .entry)) (now (rows .entry)) (now (checkpoints .entry))))
+        r (areas (now (slots .exit)) (now (rows .exit)) (now (checkpoints .exit))) ⌝ }
+{
+    let mut starts = [0u64; 1024];
+    let mut lens = [0u64; 1024];
+    let mut span_starts = [0u64; 1024];
+    let mut span_counts = [0u32; 1024];
+    append_text(
+        slots,
+        rows,
+        checkpoints,
+        text,
+        &mut starts,
+        &mut lens,
+        &mut span_starts,
+        &mut span_counts,
+        places,
+    )
+}

@@ -1,0 +1,9 @@
+pub mod FieldLaws
+pub mod LineBack
+pub mod LinesBack
+pub mod LineLaws
+pub mod ListLaws
+pub mod PrefixLaws
+pub mod OnlyPrinted
+pub mod ImportLaws
+pub mod Examples

@@ -1,0 +1,4 @@
+pub mod ReadingLaws
+pub mod WindowLaws
+pub mod ShownLaws
+pub mod WholeLaws

@@ -1,0 +1,5 @@
+pub mod Printed
+pub mod Placed
+pub mod Accepted
+pub mod Listings
+pub mod RoundTrip
