@@ -14,7 +14,8 @@
 extern "C" {
 #endif
 
-/* What a call returns. Any call gives 1; create no other; open 2 to 5; the others 6, and append 7 to 13, truncate 14, read 15 to 17. */
+/* What a call returns. Any call gives 1; create no other; open 2 to 5; the others 6, and append 7 to 13, truncate 14,
+ * read 15 to 17, append_listing 18 to 20 and then 8 to 13. */
 enum gurwynell_refusal {
     GURWYNELL_ACCEPTED = 0,
     GURWYNELL_AREA_TOO_SMALL = 1,          /* an area under 16 bytes */
@@ -33,7 +34,10 @@ enum gurwynell_refusal {
     GURWYNELL_PAST_COUNT = 14,             /* truncation past the count */
     GURWYNELL_TOO_MANY_NUMBERS = 15,       /* more than 1,024 numbers */
     GURWYNELL_ANSWERS_TOO_SHORT = 16,      /* answer buffer too short */
-    GURWYNELL_ROW_MISSING = 17             /* a slot that is looked at needs a row and has none */
+    GURWYNELL_ROW_MISSING = 17,            /* a slot that is looked at needs a row and has none */
+    GURWYNELL_LISTING_MALFORMED = 18,      /* no names line, a line not of the form, or a 1,025th value line */
+    GURWYNELL_LISTING_NUMBER = 19,         /* a record number not one above the line before, or not count + 1 on the first */
+    GURWYNELL_LISTING_SPAN_LEN = 20        /* a span length that is not 8 times the span count */
 };
 
 /* Where the words of an answer stand, and how many there are for each wanted number. All are 0 where nothing is found. */
@@ -72,6 +76,10 @@ uint64_t create_loc_open(GURWYNELL_AREAS, uint64_t *value);
 uint64_t create_loc_open_run(GURWYNELL_AREAS, uint64_t places, uint64_t *value);
 uint64_t create_loc_append(GURWYNELL_AREAS, GURWYNELL_PAIRED_LISTS, uint64_t *value);
 uint64_t create_loc_append_run(GURWYNELL_AREAS, GURWYNELL_PAIRED_LISTS, uint64_t places, uint64_t *value);
+/* A listing as one batch. The text is the names line, `record body_start body_len span_start span_len spans`, and at most 1,024
+ * lines of these six as decimal numbers without leading zeros, one space between two; a line feed ends every line. */
+uint64_t create_loc_append_listing(GURWYNELL_AREAS, const uint8_t *text, size_t text_len, uint64_t *value);
+uint64_t create_loc_append_listing_run(GURWYNELL_AREAS, const uint8_t *text, size_t text_len, uint64_t places, uint64_t *value);
 uint64_t create_loc_truncate(GURWYNELL_AREAS, uint64_t count, uint64_t *value);
 uint64_t create_loc_truncate_run(GURWYNELL_AREAS, uint64_t count, uint64_t places, uint64_t *value);
 uint64_t create_loc_read(GURWYNELL_LENT_AREAS, GURWYNELL_READING, uint64_t *value);

@@ -1,5 +1,5 @@
 /* README's example, compiled as C and as C++ against the archive: two records are created, appended, opened, read and audited.
- * Prints what differs from document 01's listing; lists of length 0 are NULL. */
+ * Prints what differs from document 01's listing. Then a third record from a listing; lists of length 0 are NULL. */
 #include "gurwynell.h"
 #include <stdio.h>
 
@@ -33,6 +33,13 @@ int main(void)
     expect("span count", answers[GURWYNELL_PAIRED_SPAN_COUNT], 1);
     expect("audit", create_loc_audit(slots, 64, rows, 64, checkpoints, 64, &value), GURWYNELL_ACCEPTED);
     expect("soundness", value, 1);
+
+    const char listing[] = "record body_start body_len span_start span_len spans\n3 2104 8 48 16 2\n";
+    const uint8_t *text = (const uint8_t *)listing;
+    expect("append of a listing", create_loc_append_listing(slots, 64, rows, 64, checkpoints, 64, text, sizeof listing - 1, &value), GURWYNELL_ACCEPTED);
+    expect("the count after it", value, 3);
+    expect("the same again", create_loc_append_listing(slots, 64, rows, 64, checkpoints, 64, text, sizeof listing - 1, &value), GURWYNELL_LISTING_NUMBER);
+    expect("no text", create_loc_append_listing_run(slots, 64, rows, 64, checkpoints, 64, NULL, 0, 4, &value), GURWYNELL_LISTING_MALFORMED);
 
     expect("an empty batch", create_loc_append(slots, 64, rows, 64, checkpoints, 64, NULL, 0, NULL, 0, NULL, 0, NULL, 0, &value), GURWYNELL_ACCEPTED);
     expect("an empty reading", delta_loc_read(NULL, 0, NULL, 0, NULL, 0, NULL, 0, NULL, 0, &value), GURWYNELL_AREA_TOO_SMALL);

@@ -165,7 +165,7 @@ fn any_call(trial: &Trial, style: &Style, pick: &mut Pick) -> Call {
     }
 }
 
-fn far_or_any(style: &Style, pick: &mut Pick) -> (u64, u64) {
+pub fn far_or_any(style: &Style, pick: &mut Pick) -> (u64, u64) {
     let far = |pick: &mut Pick| u64::MAX - pick.below(1 << 18);
     if style.far {
         (far(pick), far(pick))

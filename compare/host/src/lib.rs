@@ -6,6 +6,7 @@ pub mod audit;
 pub mod damage;
 pub mod history;
 pub mod judge;
+pub mod listing;
 pub mod named;
 pub mod pick;
 pub mod port;

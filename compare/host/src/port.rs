@@ -31,6 +31,16 @@ mod c {
             span_starts: *const u64, span_starts_n: usize, spans: *const u32, spans_n: usize,
             places: u64, value: *mut u64,
         ) -> u64;
+        pub fn create_loc_append_listing(
+            s: *mut u8, sn: usize, r: *mut u8, rn: usize, c: *mut u8, cn: usize,
+            text: *const u8, text_n: usize,
+            value: *mut u64,
+        ) -> u64;
+        pub fn create_loc_append_listing_run(
+            s: *mut u8, sn: usize, r: *mut u8, rn: usize, c: *mut u8, cn: usize,
+            text: *const u8, text_n: usize,
+            places: u64, value: *mut u64,
+        ) -> u64;
         pub fn delta_loc_append(
             s: *mut u8, sn: usize, r: *mut u8, rn: usize, c: *mut u8, cn: usize,
             starts: *const u64, starts_n: usize, lens: *const u64, lens_n: usize,
@@ -191,6 +201,46 @@ pub fn append_run(kind: Kind, areas: &mut Areas, b: &Batch, places: u64) -> Answ
                 &mut value,
             )
         },
+    };
+    (number, value)
+}
+
+/// A listing read back, into a paired index.
+pub fn append_listing(areas: &mut Areas, text: &[u8]) -> Answer {
+    let [s, r, k] = areas;
+    let mut value = UNSET;
+    let number = unsafe {
+        c::create_loc_append_listing(
+            s.as_mut_ptr(),
+            s.len(),
+            r.as_mut_ptr(),
+            r.len(),
+            k.as_mut_ptr(),
+            k.len(),
+            text.as_ptr(),
+            text.len(),
+            &mut value,
+        )
+    };
+    (number, value)
+}
+
+pub fn append_listing_run(areas: &mut Areas, text: &[u8], places: u64) -> Answer {
+    let [s, r, k] = areas;
+    let mut value = UNSET;
+    let number = unsafe {
+        c::create_loc_append_listing_run(
+            s.as_mut_ptr(),
+            s.len(),
+            r.as_mut_ptr(),
+            r.len(),
+            k.as_mut_ptr(),
+            k.len(),
+            text.as_ptr(),
+            text.len(),
+            places,
+            &mut value,
+        )
     };
     (number, value)
 }

@@ -36,7 +36,14 @@ pub struct Tally {
     pub histories: u64,
     /// Audits by kind: of an index that is not sound, and of one that is.
     pub audits: [[u64; 2]; 2],
+    /// Texts that were read back as listings.
+    pub texts: u64,
+    /// How often each number came from a listing's calls.
+    listings: [u64; 21],
 }
+
+/// What a listing's calls can give: all but the lists that differ, and what other calls refuse.
+const OF_A_LISTING: [usize; 12] = [0, 1, 6, 8, 9, 10, 11, 12, 13, 18, 19, 20];
 
 /// Refusals that document 01 adds: the port's alone, so there is nothing to compare but that they come where it says.
 pub fn added(kind: Kind, number: u64) -> bool {
@@ -49,6 +56,10 @@ impl Tally {
             self.calls[kind as usize][what as usize] += 1;
         }
         self.numbers[kind as usize][number as usize] += 1;
+    }
+
+    pub fn note_listing(&mut self, number: u64) {
+        self.listings[number as usize] += 1;
     }
 
     pub fn compared(&self) -> u64 {
@@ -80,6 +91,7 @@ impl Tally {
                 }
             }
         }
+        list.extend(OF_A_LISTING.iter().filter(|&&n| self.listings[n] == 0).map(|n| format!("listing {n}")));
         list
     }
 
@@ -94,6 +106,17 @@ impl Tally {
             text += &format!("numbers, {}: {}\n", kind.name(), list.join(", "));
         }
         text
+    }
+
+    /// The listings, which the original does not read back.
+    pub fn listings(&self) -> String {
+        let list: Vec<String> = OF_A_LISTING.iter().map(|&n| format!("{n}: {}", self.listings[n])).collect();
+        format!(
+            "listings read back: {} calls of {} texts agree with the rules and with append ({})",
+            self.listings.iter().sum::<u64>(),
+            self.texts,
+            list.join(", ")
+        )
     }
 
     pub fn summary(&self) -> String {

@@ -2,8 +2,11 @@
 //! compare [--seed N] [--histories N | --seconds N] [--one SEED]
 use host::judge::Folder;
 use host::tally::Tally;
-use host::{history, named, sweep};
+use host::{history, listing, named, sweep};
 use std::time::{Duration, Instant};
+
+/// Once in so many histories the listings of its seed are read back too.
+const LISTINGS_ONE_IN: u64 = 25;
 
 fn main() {
     let mut seed = 1u64;
@@ -26,6 +29,7 @@ fn main() {
     let begun = Instant::now();
     let named = named::run(&folder, &mut tally, false, &mut |_, _| {})
         .unwrap_or_else(|(message, steps)| differs(&folder, None, &message, &steps));
+    let texts = listing::named(&mut tally).unwrap_or_else(|(message, steps)| differs(&folder, None, &message, &steps));
     let worlds = match one {
         Some(_) => 0,
         None => {
@@ -44,25 +48,34 @@ fn main() {
         }
         // seeds of different runs do not meet
         let this = one.unwrap_or(seed.wrapping_mul(1_000_000_007).wrapping_add(i));
+        let with_listings = one.is_some() || i % LISTINGS_ONE_IN == 0;
         i += 1;
-        let ran = std::panic::catch_unwind(std::panic::AssertUnwindSafe(|| history::run(this, &folder, &mut tally)));
+        let ran = std::panic::catch_unwind(std::panic::AssertUnwindSafe(|| {
+            history::run(this, &folder, &mut tally)?;
+            if with_listings {
+                listing::run(this, &mut tally)?;
+            }
+            Ok(())
+        }));
         match ran {
             Ok(Ok(())) => {}
             Ok(Err((message, steps))) => differs(&folder, Some(this), &message, &steps),
             Err(_) => differs(&folder, Some(this), "one side panicked", &[]),
         }
         if one.is_some() {
-            println!("history of seed {this}: no difference");
+            println!("history and listings of seed {this}: no difference");
             return;
         }
     }
     print!("{}", tally.numbers());
+    println!("{}", tally.listings());
     let unseen = tally.unseen();
     if !unseen.is_empty() {
         println!("comparison with the original: never met: {}", unseen.join(", "));
         drop(folder);
         std::process::exit(1);
     }
+    let named = named + texts;
     println!("{}; {named} named cases and {worlds} small worlds; {} s", tally.summary(), begun.elapsed().as_secs());
 }
 
@@ -72,7 +85,7 @@ fn differs(folder: &Folder, seed: Option<u64>, message: &str, steps: &[String]) 
     }
     println!("DIFFERENCE: {message}");
     if let Some(seed) = seed {
-        println!("repeat it: compare/run.sh --one {seed}   ({})", history::kind_of(seed).name());
+        println!("repeat it: compare/run.sh --one {seed}   (history: {})", history::kind_of(seed).name());
     }
     let _ = std::fs::remove_dir_all(folder.dir());
     std::process::exit(1);

@@ -1,5 +1,5 @@
-//! Port and original on the same data in one process: reading, opening, append, truncation, and cost against size, rows and wanted numbers.
-//! bench [--quick] [reading|growth|storing|size|numbers]...   the tables named, all where none is; the result first, from the same lines
+//! Port and original on the same data in one process: reading, opening, append, truncation, listings, and cost against size, rows and wanted numbers.
+//! bench [--quick] [reading|growth|storing|listing|size|numbers]...   the tables named, all where none is; the result first, from the same lines
 mod index;
 mod markdown;
 mod measure;
@@ -15,10 +15,11 @@ use turns::Setting;
 
 type Table = fn(&mut Run, &Folder, &Setting);
 
-const TABLES: [(&str, Table); 5] = [
+const TABLES: [(&str, Table); 6] = [
     ("reading", tables::reading_table),
     ("growth", tables::growth_table),
     ("storing", tables::storing_table),
+    ("listing", tables::listing_table),
     ("size", tables::size_table),
     ("numbers", tables::numbers_table),
 ];

@@ -1,7 +1,7 @@
 //! The tables in Markdown. Times in microseconds, ratios of the times that stand beside them.
-//! Nothing is worked out here but ratios, and nanoseconds a row where there are 9,000 rows or more.
+//! Nothing is worked out here but ratios, bytes a second, and nanoseconds a row where there are 9,000 rows or more.
 use crate::measure::Both;
-use crate::tables::{Line, Run, Sized, Stored, STORING_RECORDS};
+use crate::tables::{Line, Listed, Run, Sized, Stored, LISTING_LINES, STORING_RECORDS};
 
 /// From here on what checks do beside the rows is not seen in their time by row.
 pub const MANY_ROWS: usize = 9_000;
@@ -74,6 +74,9 @@ pub fn print(run: &Run) {
     if !run.storing.is_empty() {
         storing(&run.storing);
     }
+    if !run.listing.is_empty() {
+        listing(&run.listing);
+    }
     if !run.size.is_empty() {
         size(&run.size);
     }
@@ -129,6 +132,42 @@ fn storing(lines: &[Stored]) {
             line.name(),
             us(port),
             us(files)
+        );
+    }
+}
+
+impl Listed {
+    /// Millions of bytes of text in a second.
+    pub fn rate(&self) -> f64 {
+        self.times.bytes as f64 / self.times.call / 1e6
+    }
+
+    pub fn against_rust(&self) -> f64 {
+        over(self.times.call, self.times.rust)
+    }
+
+    pub fn against_lists(&self) -> f64 {
+        over(self.times.call, self.times.lists)
+    }
+}
+
+fn listing(lines: &[Listed]) {
+    println!("\n## A listing of {} lines into an empty index\n", number(LISTING_LINES as u64));
+    head("| rows | published rows | bytes | listing | MB/s | reader in Rust, append | listing / Rust | append of the lists | listing / lists | original's append, files |");
+    for line in lines {
+        let t = &line.times;
+        println!(
+            "| {} | {} | {} | {} | {:.0} | {} | {} | {} | {} | {} |",
+            line.density,
+            line.rows,
+            t.bytes,
+            us(t.call),
+            line.rate(),
+            us(t.rust),
+            ratio(line.against_rust()),
+            us(t.lists),
+            ratio(line.against_lists()),
+            us(t.files)
         );
     }
 }

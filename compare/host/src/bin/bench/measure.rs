@@ -1,10 +1,11 @@
-//! What is measured: a reading, an append with the truncation that takes it back, an opening.
+//! What is measured: a reading, an append with the truncation that takes it back, an opening, a listing read back.
 //! Before a reading is timed the answers of port and original are compared.
 use crate::index::{batch, Index};
 use crate::turns::{group, over_calls, over_lists, spent, Setting, Side};
 use crate::wanted::Spread;
-use host::areas::SLOTS;
+use host::areas::{Areas, SLOTS};
 use host::judge::{Folder, Judge};
+use host::listing::{print, read};
 use host::pick::Pick;
 use host::port;
 use original::io_handle::cut_after;
@@ -110,6 +111,48 @@ pub fn storing(index: &mut Index, n: usize, rows_one_in: u64, setting: &Setting)
         best[1] = (best[1].0.min(port_truncate), best[1].1.min(truncate));
     });
     best
+}
+
+/// Seconds of a listing appended, and bytes of its text. `rust` is the comparison's reader in Rust with the port's append after it;
+/// `lists` and `files` are port and original on the lists that the text stands for.
+#[derive(Clone, Copy)]
+pub struct Listing {
+    pub bytes: usize,
+    pub call: f64,
+    pub rust: f64,
+    pub lists: f64,
+    pub files: f64,
+}
+
+/// Call by call, each taken back by a truncation that is not measured. Before that the bytes are compared.
+pub fn listing(index: &mut Index, n: usize, rows_one_in: u64, setting: &Setting) -> Listing {
+    let mut ends = index.ends;
+    let b = batch(index.kind, &mut Pick::new(n as u64), n, rows_one_in, &mut ends);
+    let Index { kind, records, areas, judge, .. } = index;
+    let (longer, records) = (*records + n as u64, *records);
+    let text = print(&b, records + 1).into_bytes();
+    let mut copy = areas.clone();
+    port::append(*kind, &mut copy, &b);
+    port::append_listing(areas, &text);
+    assert!(*areas == copy, "a listing and its lists are stored differently");
+    let mut ours = |append: &dyn Fn(&mut Areas) -> port::Answer| {
+        port::truncate(*kind, areas, records);
+        spent(|| assert_eq!(append(areas).1, longer))
+    };
+    let mut best = [f64::MAX; 4];
+    setting.calls(|_| {
+        cut_after(u64::MAX);
+        let times = [
+            ours(&|areas| port::append_listing(areas, black_box(&text))),
+            ours(&|areas| port::append(*kind, areas, &read(black_box(&text), records).unwrap())),
+            ours(&|areas| port::append(*kind, areas, black_box(&b))),
+            spent(|| assert_eq!(judge.append(black_box(&b)), Ok(longer))),
+        ];
+        assert_eq!(judge.truncate(records), Ok(records));
+        best = [0, 1, 2, 3].map(|side| times[side].min(best[side]));
+    });
+    let [call, rust, lists, files] = best;
+    Listing { bytes: text.len(), call, rust, lists, files }
 }
 
 pub fn opening(index: &mut Index, folder: &Folder, setting: &Setting) -> Both {

@@ -1,7 +1,7 @@
 //! What the tables say, worked out from the same lines, as the document's section Result.
 //! Every figure and every "all of them" in its text is computed here.
 use crate::markdown::{head, number, over, ratio, us, MANY_ROWS};
-use crate::tables::{Line, Run, GROWTH};
+use crate::tables::{Line, Listed, Run, GROWTH, LISTING_LINES};
 use crate::wanted::{Spread, WORKLOADS};
 use std::cmp::Ordering;
 
@@ -54,6 +54,9 @@ pub fn print(run: &Run) {
     }
     if !run.storing.is_empty() {
         storing(run);
+    }
+    if !run.listing.is_empty() {
+        listing(&run.listing);
     }
     if !run.numbers.is_empty() {
         numbers(&run.numbers);
@@ -282,6 +285,21 @@ fn storing(run: &Run) {
         );
     }
     println!("\nAppend and truncation are timed call by call; the clock's own {} µs are in them.", us(run.clock));
+}
+
+fn listing(lines: &[Listed]) {
+    let rate = Figures::of(lines.iter().map(Listed::rate));
+    println!(
+        "\n**A listing** of {} lines is read at {:.0} to {:.0} MB/s of text, in {} of the time of a plain reader in Rust with the port's append after it;",
+        number(LISTING_LINES as u64),
+        rate.least(),
+        rate.largest(),
+        range(&Figures::of(lines.iter().map(Listed::against_rust)))
+    );
+    println!(
+        "it takes {} times as long as the port's append of the lists alone.",
+        range(&Figures::of(lines.iter().map(Listed::against_lists)))
+    );
 }
 
 fn numbers(lines: &[Line]) {

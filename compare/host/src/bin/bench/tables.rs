@@ -1,7 +1,7 @@
 //! The tables' measurements: which indexes and which calls.
 //! Every table has its own; what is in two tables was measured for each.
 use crate::index::{build, Index, DENSITIES, KINDS};
-use crate::measure::{opening, reading, storing, Both, Reading};
+use crate::measure::{listing, opening, reading, storing, Both, Listing, Reading};
 use crate::turns::{spent, Setting};
 use crate::wanted::{Spread, WORKLOADS};
 use host::areas::Kind;
@@ -29,6 +29,13 @@ pub struct Stored {
     pub times: Both,
 }
 
+/// One listing, and the rows that it makes.
+pub struct Listed {
+    pub density: &'static str,
+    pub rows: usize,
+    pub times: Listing,
+}
+
 /// All calls on an index of one size.
 pub struct Sized {
     pub line: Line,
@@ -42,6 +49,7 @@ pub struct Run {
     pub reading: Vec<Line>,
     pub growth: Vec<Line>,
     pub storing: Vec<Stored>,
+    pub listing: Vec<Listed>,
     pub size: Vec<Sized>,
     pub numbers: Vec<Line>,
     pub clock: f64,
@@ -105,6 +113,17 @@ pub fn storing_table(run: &mut Run, folder: &Folder, setting: &Setting) {
                 run.storing.push(stored("truncation", n, truncation));
             }
         }
+    }
+}
+
+pub const LISTING_LINES: usize = 1024;
+
+/// A listing of as many lines as there may be, into an empty index.
+pub fn listing_table(run: &mut Run, folder: &Folder, setting: &Setting) {
+    for (density, one_in) in DENSITIES {
+        let mut index = build(Kind::Paired, folder, 0, one_in);
+        let times = listing(&mut index, LISTING_LINES, one_in, setting);
+        run.listing.push(Listed { density, rows: index.row_count(), times });
     }
 }
 
