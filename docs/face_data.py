@@ -1,7 +1,8 @@
 #!/usr/bin/env python3
-# Writes data/ and stdout of the programs crates/face_*: the files of a face, and the listing that document 01's rules ask of them.
-# Run it in the repository's root; the gate runs the programs and needs no Python.
+# Writes data/ and stdout of the programs crates/face_*: the files of a face, and the listing that document 01's rules ask of them;
+# and stdin and stdout of face_import*, by document 02's. Run it in the repository's root; the gate runs the programs and needs no Python.
 import os
+import re
 from struct import pack
 
 NAMES = "record body_start body_len span_start span_len spans\n"
@@ -75,3 +76,74 @@ write("face_long", area(slots), area(rows), area(checkpoints), NAMES + "refused 
 # no files, and two of three
 write("face_missing", None, None, None, "refused 1\n")
 write("face_one_file", area(two[0]), None, None, "refused 1\n")
+
+
+# ---- listings on standard input
+
+
+def refusal(text):
+    """The number of a text for an empty index with room for 1,024 records, 0 where it is accepted; and its lines' numbers."""
+    if not text.startswith(NAMES):
+        return 18, []
+    records = []
+    for line in text[len(NAMES) :].splitlines(keepends=True):
+        if len(records) == 1024 or not re.fullmatch("((0|[1-9][0-9]*) ){5}(0|[1-9][0-9]*)\n", line):
+            return 18, []
+        record = [int(field) for field in line.split(" ")]
+        if max(record) >= 2**64 or record[5] >= 2**32:
+            return 18, []
+        if record[0] != len(records) + 1:
+            return 19, []
+        if record[4] != 8 * record[5]:
+            return 20, []
+        records.append(record)
+    for record, after in zip(records, records[1:] + [None]):
+        _, start, length, span, span_len, spans = record
+        if spans == 0:
+            return 8, []
+        if length == 0 or length % 8:
+            return 9, []
+        if length // 8 >= 2**32:
+            return 10, []
+        if after and after[1] != min(start + length, 2**64 - 1):
+            return 11, []
+        if after and after[3] != min(span + span_len, 2**64 - 1):
+            return 12, []
+    return 0, records
+
+
+def imported(name, text):
+    """A program's input, and what it prints: the listing of the index that holds the text's records, or its refusal."""
+    number, records = refusal(text)
+    lines = face([(length, spans) for _, _, length, _, _, spans in records])[3]
+    os.makedirs(f"crates/{name}", exist_ok=True)
+    with open(f"crates/{name}/stdin", "w", newline="") as out:
+        out.write(text)
+    with open(f"crates/{name}/stdout", "w") as out:
+        out.write(f"refused {number}\n" if number else NAMES + "".join(lines))
+
+
+def listing(records):
+    return NAMES + "".join(face(records)[3])
+
+
+# document 01's two records, then the largest of a byte with a row, and the largest strides and span count
+imported("face_import", listing([(40, 3), (2048, 1), (2040, 256), (8 * (2**32 - 1), 2**32 - 1)]))
+# as many lines as a listing may have, one more, and far more bytes than the program reads
+many = [(8 * (1 + 7 * i % 300), 1 + 11 * i % 300) for i in range(4096)]
+imported("face_import_full", listing(many[:1024]))
+imported("face_import_over", listing(many[:1025]))
+imported("face_import_long", listing(many))
+# no records, and no input
+imported("face_import_names", NAMES)
+imported("face_import_empty", "")
+
+# 18: a zero in front, 2^64, no last line feed; each after a right line
+two = listing([(40, 3), (2048, 1)])
+imported("face_import_zero", two.replace("2 56", "2 056"))
+imported("face_import_wide", two.replace("2 56", f"2 {2**64}"))
+imported("face_import_unended", two[:-1])
+# 19 before 20, 20 before append's 11, and append's 11
+imported("face_import_number", two.replace("2 56 2048 40 8 1", "3 56 2048 40 16 1"))
+imported("face_import_length", two.replace("2 56 2048 40 8 1", "2 64 2048 40 16 1"))
+imported("face_import_break", two.replace("2 56", "2 64"))
