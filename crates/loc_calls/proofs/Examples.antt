@@ -2,6 +2,7 @@
 -- One proposition conjoins them.
 use Prim.Native.Nat.{ℕ, _+_, _*_, _^_, _-_}
 use mathlib.Core.Path.{_≡_, refl}
+use mathlib.Core.Bool.{true}
 use mathlib.Core.List.{List, [], _∷_, _++_, flatten}
 use lib.ListN.{replicate}
 use Rattle.loc_leaf.specs.declared.Kind.{Kind}
@@ -12,12 +13,14 @@ use Rattle.loc_leaf.specs.Area.{counted, storeLength, storePast, pieces, fill, 
 use Rattle.loc_leaf.specs.Slot.{stridesRefusal, slot, needsRow, inline, slotAt, checkpointRule}
 use Rattle.loc_leaf.specs.Rows.{row, rowNumber, rowValue, rowList, ascending, lastNumber, rowsUpTo, rowFor, hasRow, lookup, slotValue, valueIn}
 use Rattle.loc_leaf.specs.Cut.{matches, cuts, cutFor}
+use Rattle.loc_calls.specs.declared.SpanAt.{SpanAt}
 use Rattle.loc_calls.specs.Areas.{Three, each, Areas, sizes, count}
 use Rattle.loc_calls.specs.Table.{valueOf, bodyAfter, spanAfter, Call, opening, append, truncate, read, zipped, entries, uneven, spanless, breaks, entryRefusal, entriesRefusal, endPast, batchRefusal, table}
 use Rattle.loc_calls.specs.Stores.{step, run, differing, truncatePlaces, nextRow, holdsNext, cutRule, ruledCount, ruled, openPlaces, ragged, openRefusal, stores, anyStores, settled, checkpoint, gather, rowOf, checkpointOf, staged, newEnd, newEnds, appendPlaces}
-use Rattle.loc_calls.specs.Reading.{sumAfter, allAfter, lookupAt, has, valueAt, stridesAfter, spansAfter, checkpointAt, windowEnd, lookedAt, within, rowMissing, anyMissing, words, wordsFor, answered, found}
+use Rattle.loc_calls.specs.Reading.{sumAfter, allAfter, firstAfter, lookupAt, has, valueAt, stridesAfter, spansAfter, checkpointAt, windowEnd, lookedAt, within, rowMissing, anyMissing, words, wordsFor, answered, found}
 use Rattle.loc_calls.specs.Audit.{bodySum, spanSum, checkpointSound, sound}
-use Rattle.loc_calls.specs.Calls.{unlessRefused, tooSmall, unread, isOpening, refusal, places, placeCount, value, lent, buffer, areasAfter, call, createPlaces, create, audit}
+use Rattle.loc_calls.specs.Calls.{unlessRefused, tooSmall, wholeRefusal, unread, isOpening, refusal, places, placeCount, value, lent, buffer, areasAfter, call, createPlaces, create, audit}
+use Rattle.loc_calls.specs.SpanAt.{holds, refusedBy, crossing, spanAmong, spanAt}
 
 -- ---- areas
 
@@ -90,6 +93,13 @@ last = batch ((16 + 1023 * 40) ∷ []) (2048 ∷ []) ((16 + 1023 * 40) ∷ []) (
 abbrev wide : Areas
 wide = three (area 2068 (replicate 2052 5)) (area 16 []) (area 32 (bytes 8 (16 + 1024 * 40) ++ bytes 8 (16 + 8 * (1024 * 5))))
 
+-- 1,025 records, the last with 2 spans, whose spans start at the checkpoint's 2^64 − 9
+abbrev high : Areas
+high = three (area 2066 (replicate 2048 5 ++ (2 ∷ 2 ∷ []))) (area 16 []) (area 32 (bytes 8 (16 + 1024 * 40) ++ bytes 8 (2 ^ 64 - 9)))
+
+abbrev located : ℕ → ℕ → ℕ → SpanAt
+located id i m = record { number = 0; «record» = id; index = i; remainder = m }
+
 -- ---- every number of the table, 1 to 17
 
 abbrev numbers : List ℕ
@@ -156,9 +166,24 @@ pub record Computed : Type 0 where
   -- sound, and not: a row is lacking
   audits : (audit Paired full) .answer ≡ record { number = 0; value = 1 }
   audits-not : (audit Paired rowless) .answer ≡ record { number = 0; value = 0 }
+  -- an address: the first of all, the last of record 1, the first of record 2; 21 before and behind all ranges
+  locates-first : spanAt full 16 ≡ located 1 0 0
+  locates-last : spanAt full 39 ≡ located 1 2 7
+  locates-next : spanAt full 40 ≡ located 2 0 0
+  locates-before : spanAt full 15 ≡ refusedBy 21
+  locates-behind : spanAt full 48 ≡ refusedBy 21
+  -- 17 for a row after the record that holds it, and before 21
+  locates-lacking : spanAt rowless 16 ≡ refusedBy 17
+  locates-neither : spanAt rowless 48 ≡ refusedBy 17
+  -- in a second window, from the checkpoint on
+  locates-over : holds (wordsFor Paired wide) 40985 1025 ≡ true
+  locates-on : crossing (wordsFor Paired wide) 40985 1025 ≡ located 1025 1 1
+  -- an end that is not saturated
+  locates-high : holds (wordsFor Paired high) (2 ^ 64 - 1) 1025 ≡ true
+  locates-plain : crossing (wordsFor Paired high) (2 ^ 64 - 1) 1025 ≡ located 1025 1 0
 
 pub computed : Computed
-unfolding number bytes numberAt store answer counted storeLength storePast pieces fill published stridesRefusal slot needsRow inline slotAt checkpointRule row rowNumber rowValue rowList ascending lastNumber rowsUpTo rowFor hasRow lookup slotValue matches cuts cutFor sizes count valueOf bodyAfter spanAfter zipped entries uneven spanless breaks entryRefusal entriesRefusal endPast batchRefusal table step run differing truncatePlaces nextRow holdsNext cutRule ruledCount ruled openPlaces ragged openRefusal stores anyStores settled checkpoint gather rowOf checkpointOf staged newEnd newEnds appendPlaces sumAfter allAfter lookupAt has valueIn valueAt stridesAfter spansAfter checkpointAt windowEnd lookedAt within rowMissing anyMissing words wordsFor answered found bodySum spanSum checkpointSound sound unlessRefused tooSmall unread isOpening refusal places value lent buffer areasAfter call createPlaces create audit flatten
+unfolding number bytes numberAt store answer counted storeLength storePast pieces fill published stridesRefusal slot needsRow inline slotAt checkpointRule row rowNumber rowValue rowList ascending lastNumber rowsUpTo rowFor hasRow lookup slotValue matches cuts cutFor sizes count valueOf bodyAfter spanAfter zipped entries uneven spanless breaks entryRefusal entriesRefusal endPast batchRefusal table step run differing truncatePlaces nextRow holdsNext cutRule ruledCount ruled openPlaces ragged openRefusal stores anyStores settled checkpoint gather rowOf checkpointOf staged newEnd newEnds appendPlaces sumAfter allAfter lookupAt has valueIn valueAt stridesAfter spansAfter checkpointAt windowEnd lookedAt within rowMissing anyMissing words wordsFor answered found bodySum spanSum checkpointSound sound unlessRefused tooSmall unread isOpening refusal places value lent buffer areasAfter call createPlaces create audit flatten firstAfter wholeRefusal holds crossing spanAmong spanAt
 computed = record {
   refusals = refl;
   creates = refl;
@@ -185,4 +210,15 @@ computed = record {
   reads-on = refl;
   audits = refl;
   audits-not = refl;
+  locates-first = refl;
+  locates-last = refl;
+  locates-next = refl;
+  locates-before = refl;
+  locates-behind = refl;
+  locates-lacking = refl;
+  locates-neither = refl;
+  locates-over = refl;
+  locates-on = refl;
+  locates-high = refl;
+  locates-plain = refl;
 }

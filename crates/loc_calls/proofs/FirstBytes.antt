@@ -8,6 +8,7 @@ use native.Mathlib.Omega.{arith}
 use lib.ListN.{length, take, drop}
 use lib.Seq.{drop-drop}
 use Rattle.loc_leaf.specs.declared.Kind.{Kind}
+use Rattle.loc_leaf.specs.declared.Kind.the-variants.{Paired}
 use Rattle.loc_leaf.specs.Bytes.{Bytes, bytes, numberAt, store}
 use Rattle.loc_leaf.specs.Answers.{refuse, answer}
 use Rattle.loc_leaf.specs.Area.{counted, storeLength, storePast, fill, published}
@@ -22,8 +23,9 @@ use Rattle.loc_calls.specs.Table.{Call, opening, append, truncate, read}
 use Rattle.loc_calls.specs.Stores.{Place, keep, slotLength, rowLength, checkpointLength, write, step, run, differing, truncatePlaces, nextRow, holdsNext, cutRule, ruledCount, ruled, openPlaces, ragged, openRefusal, settled, newEnd, newEnds, appendPlaces}
 use Rattle.loc_calls.specs.Reading.{lookupAt, valueAt, stridesAfter, spansAfter, checkpointAt, windowEnd, rowMissing, anyMissing, wordsFor}
 use Rattle.loc_calls.specs.Audit.{bodySum, spanSum, checkpointSound, sound}
-use Rattle.loc_calls.specs.Calls.{unlessRefused, tooSmall, firstRefusal, unread, refusal, places, buffer, areasAfter, call, createPlaces, create, audit}
-use Rattle.loc_calls.specs.Guarantees.{AnyCall, indexCall, creation, auditing, outcome, SameFrom8, SameOutcome, Unread, FirstBytesUnread, Unwritten, FirstBytesUnwritten}
+use Rattle.loc_calls.specs.SpanAt.{spanAmong, spanAt, spanAtOutcome}
+use Rattle.loc_calls.specs.Calls.{unlessRefused, tooSmall, firstRefusal, wholeRefusal, unread, refusal, places, buffer, areasAfter, call, createPlaces, create, audit}
+use Rattle.loc_calls.specs.Guarantees.{AnyCall, indexCall, creation, auditing, locating, outcome, SameFrom8, SameOutcome, Unread, FirstBytesUnread, Unwritten, FirstBytesUnwritten}
 
 -- ---- one area
 
@@ -242,8 +244,12 @@ module _ (k : Kind) {a b : Areas} (h : Parts a b) where
   unfolding areasAfter
   after-same s c = rw (refusal-same c, places-same c) (unless-same (refusal k c b) (run-same s (places k c b) h) h)
 
+located-same : {a b : Areas} → Parts a b → (x : ℕ) → spanAt a x ≡ spanAt b x
+unfolding spanAt wholeRefusal spanAmong
+located-same h x = rw (first-same Paired h, count-same Paired h, lookup-same Paired h, words-same Paired h) refl
+
 outcome-same : (c : AnyCall) {a b : Areas} → Parts a b → SameOutcome (outcome c a) (outcome c b)
-unfolding outcome call create audit
+unfolding outcome call create audit spanAtOutcome
 outcome-same (indexCall k s c) h = record {
   answer = rw (refusal-same k h c, count-same k (after-same k h s c)) refl;
   buffer = rw (refusal-same k h c, words-same k h) refl;
@@ -255,6 +261,7 @@ outcome-same creation {b = b} h = record {
   areas = whole (rw (small-same h) (unless-same (refuse (tooSmall b) 1) (run-same 3 createPlaces h) h));
 }
 outcome-same (auditing k) h = record { answer = rw (small-same h, settled-same k h, sound-same k h) refl; buffer = refl; areas = whole h }
+outcome-same (locating x) h = record { answer = rw (located-same h x) refl; buffer = rw (located-same h x) refl; areas = whole h }
 
 pub first-bytes-unread : FirstBytesUnread
 unfolding FirstBytesUnread Unread
@@ -291,7 +298,8 @@ kept-unless zero d a h = h
 kept-unless (suc n) d a h = refl
 
 pub first-bytes-unwritten : FirstBytesUnwritten
-unfolding FirstBytesUnwritten Unwritten outcome call areasAfter create audit
+unfolding FirstBytesUnwritten Unwritten outcome call areasAfter create audit spanAtOutcome
 first-bytes-unwritten (indexCall k s c) a = kept-unless (refusal k c a) (run s (places k c a) a) a (kept-run s (places k c a) a)
 first-bytes-unwritten creation a = kept-unless (refuse (tooSmall a) 1) (run 3 createPlaces a) a (kept-run 3 createPlaces a)
 first-bytes-unwritten (auditing k) a = refl
+first-bytes-unwritten (locating x) a = refl

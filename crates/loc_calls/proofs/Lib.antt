@@ -12,4 +12,6 @@ pub mod Appending
 pub mod Bounds
 pub mod Reading
 pub mod Audited
+pub mod Lowest
+pub mod Located
 pub mod Examples

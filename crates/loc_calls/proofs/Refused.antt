@@ -9,6 +9,7 @@ use lib.Dec.{leb, ltb, eqb}
 use lib.ListN.{length}
 use borrow.Author.Tests.{leb-true}
 use Rattle.loc_leaf.specs.declared.Kind.{Kind}
+use Rattle.loc_leaf.specs.declared.Kind.the-variants.{Paired}
 use Rattle.loc_leaf.specs.declared.Answer.{Answer}
 use Rattle.loc_leaf.specs.Answers.{refuse, _orElse_, answer}
 use Rattle.loc_leaf.specs.Kind.{rowWidth, checkpointWidth}
@@ -19,9 +20,12 @@ use Rattle.loc_leaf.proofs.Refusals.{orElse-holds, refuse-holds}
 use Rattle.loc_calls.specs.Areas.{Three, Areas, sizes, count}
 use Rattle.loc_calls.specs.Table.{Call, opening, append, truncate, read, Entry, bodyAfter, spanAfter, entries, wordWidth, uneven, spanless, breaks, entryRefusal, entriesRefusal, endPast, batchRefusal, table}
 use Rattle.loc_calls.specs.Stores.{ragged, openRefusal, settled, newEnds}
-use Rattle.loc_calls.specs.Calls.{unlessRefused, tooSmall, firstRefusal, unread, isOpening, refusal, call, create, audit}
+use Rattle.loc_calls.specs.declared.SpanAt.{SpanAt}
+use Rattle.loc_calls.specs.Reading.{firstAfter, complete, wordsFor}
+use Rattle.loc_calls.specs.Calls.{unlessRefused, tooSmall, firstRefusal, wholeRefusal, unread, isOpening, refusal, call, create, audit}
+use Rattle.loc_calls.specs.SpanAt.{holds, refusedBy, crossing, spanAmong, spanAt, spanAtOutcome}
 use Rattle.loc_calls.specs.Promises.{Stored}
-use Rattle.loc_calls.specs.Guarantees.{indexCall, creation, auditing, outcome, lentTo, largest, InTable, NumbersOfTable, LeavesAll, RefusalsLeaveAll}
+use Rattle.loc_calls.specs.Guarantees.{indexCall, creation, auditing, locating, outcome, lentTo, largest, InTable, NumbersOfTable, LeavesAll, RefusalsLeaveAll}
 use Rattle.loc_calls.proofs.Outcomes.{refused}
 
 -- ---- the table's numbers
@@ -102,11 +106,25 @@ unfolding answer
 number-is zero v = refl
 number-is (suc n) v = refl
 
+pub whole-in : (k : Kind) (a : Areas) → wholeRefusal k a ≤ largest
+unfolding wholeRefusal
+whole-in k a = first (first-in k a) (test 17 (not (complete k a 0 (count a))) refl)
+
+located-in : (a : Areas) (x : ℕ) → Numbered ((spanAt a x) .number)
+unfolding spanAt spanAmong unlessRefused crossing
+located-in a x = go (wholeRefusal Paired a) (firstAfter (holds (wordsFor Paired a) x) 0 (count a)) (whole-in Paired a)
+  where
+    go : (n id : ℕ) → Numbered n → Numbered ((unlessRefused n (crossing (wordsFor Paired a) x id) (refusedBy n)) .number)
+    go zero zero h = omega arith
+    go zero (suc id) h = omega arith
+    go (suc n) id h = h
+
 pub numbers-of-table : NumbersOfTable
-unfolding NumbersOfTable InTable outcome call create audit
+unfolding NumbersOfTable InTable outcome call create audit spanAtOutcome
 numbers-of-table (indexCall k s c) a = rw number-is (refusal-in k c a)
 numbers-of-table creation a = rw number-is (small-in a)
 numbers-of-table (auditing k) a = rw number-is (first-in k a)
+numbers-of-table (locating x) a = rw number-is (located-in a x)
 
 -- ---- refusals
 
@@ -120,11 +138,29 @@ unfolding answer unlessRefused
 kept zero v new old h = absurd (h refl)
 kept (suc n) v new old h = refl
 
+-- all three words are 0
+none-located : (a : Areas) (x : ℕ) → ((spanAt a x) .number ≡ 0 → ⊥) → spanAt a x ≡ refusedBy ((spanAt a x) .number)
+unfolding spanAt spanAmong unlessRefused crossing
+none-located a x = go (wholeRefusal Paired a) (firstAfter (holds (wordsFor Paired a) x) 0 (count a))
+  where
+    given : ℕ → ℕ → SpanAt
+    given n id = unlessRefused n (crossing (wordsFor Paired a) x id) (refusedBy n)
+
+    go : (n id : ℕ) → ((given n id) .number ≡ 0 → ⊥) → given n id ≡ refusedBy ((given n id) .number)
+    go zero zero h = refl
+    go zero (suc id) h = absurd (h refl)
+    go (suc n) id h = refl
+
 pub refusals-leave-all : RefusalsLeaveAll
-unfolding RefusalsLeaveAll LeavesAll outcome lentTo call create audit
+unfolding RefusalsLeaveAll LeavesAll outcome lentTo call create audit spanAtOutcome
 refusals-leave-all (indexCall k s c) a h = record { value = ap (λ (r : Answer). r .value) (sym (left .0)); buffer = kept (refusal k c a) _ _ _ h; areas = sym (left .1) }
   where
     left : Stored (call k s c a) (record { number = refusal k c a; value = 0 }) a
     left = refused k s c a (refusal k c a) refl (λ e. h (number-is (refusal k c a) _ ∙ e))
 refusals-leave-all creation a h = record { value = value-0 (refuse (tooSmall a) 1) 0 h; buffer = refl; areas = kept (refuse (tooSmall a) 1) 0 _ a h }
 refusals-leave-all (auditing k) a h = record { value = value-0 (firstRefusal k a) _ h; buffer = refl; areas = refl }
+refusals-leave-all (locating x) a h = record {
+  value = value-0 _ 0 h;
+  buffer = ap (λ (r : SpanAt). r .«record» ∷ r .index ∷ r .remainder ∷ []) (none-located a x (λ e. h (number-is _ 0 ∙ e)));
+  areas = refl;
+}

@@ -8,7 +8,7 @@ use Rattle.loc_leaf.specs.declared.Kind.the-variants.{Paired, Single}
 use Rattle.loc_leaf.specs.Area.{fill}
 use Rattle.loc_leaf.specs.Kind.{checkpointWidth}
 use Rattle.loc_calls.specs.Areas.{Areas, count}
-use Rattle.loc_calls.specs.Reading.{allAfter, lookupAt, has, stridesAfter, spansAfter, windowEnd}
+use Rattle.loc_calls.specs.Reading.{allAfter, complete, stridesAfter, spansAfter, windowEnd}
 
 -- the plain sums of the lengths of the first n records, from 16 on
 unfoldable pub bodySum : Kind → Areas → ℕ → ℕ
@@ -31,6 +31,6 @@ checkpointSound k a w =
 -- every slot that needs a row has one, every checkpoint is sound, and both ends (the one end, where single) stay below 2^64
 unfoldable pub sound : Kind → Areas → Bool
 sound k a =
-    allAfter (λ i. has (lookupAt k a i)) 0 (count a)
+    complete k a 0 (count a)
     && allAfter (checkpointSound k a) 0 (fill (checkpointWidth k) (a .checkpoints))
     && bothEnds k (ltb (bodySum k a (count a)) (2 ^ 64)) (ltb (spanSum k a (count a)) (2 ^ 64))

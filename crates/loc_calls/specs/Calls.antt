@@ -1,5 +1,5 @@
 -- A call on the areas: its number, value, answer buffer, and the areas after the stores of its first s places
--- (document 01, "What each call gives"). Open, append, truncate and read are `call`; `create` and `audit` stand by themselves.
+-- (document 01, "What each call gives"). Open, append, truncate and read are `call`; `create` and `audit` stand by themselves, as does `spanAt` (SpanAt).
 use Prim.Native.Nat.{ℕ, zero, suc}
 use mathlib.Core.Bool.{Bool, true, false, cond, not}
 use mathlib.Core.List.{List, [], _∷_}
@@ -11,7 +11,7 @@ use Rattle.loc_leaf.specs.Answers.{refuse, _orElse_, answer}
 use Rattle.loc_calls.specs.Areas.{each, some, Areas, sizes, count}
 use Rattle.loc_calls.specs.Table.{Call, opening, append, truncate, read, entries, table}
 use Rattle.loc_calls.specs.Stores.{Place, slotLength, rowLength, checkpointLength, run, truncatePlaces, openPlaces, openRefusal, settled, staged, appendPlaces, newEnds}
-use Rattle.loc_calls.specs.Reading.{anyMissing, wordsFor, answered, found}
+use Rattle.loc_calls.specs.Reading.{complete, anyMissing, wordsFor, answered, found}
 use Rattle.loc_calls.specs.Audit.{sound}
 
 -- number and value, the whole answer buffer, all three areas
@@ -34,6 +34,10 @@ tooSmall a = some (each (λ xs. ltb (length xs) 16) a)
 -- 1, then 6: with these every call but creation and opening begins
 abbrev pub firstRefusal : Kind → Areas → ℕ
 firstRefusal k a = refuse (tooSmall a) 1 orElse refuse (not (settled k a)) 6
+
+-- 1, 6, and 17 for any slot of the index: with these a call begins that reads the whole index
+unfoldable pub wholeRefusal : Kind → Areas → ℕ
+wholeRefusal k a = firstRefusal k a orElse refuse (not (complete k a 0 (count a))) 17
 
 -- 17, of a reading
 unfoldable pub unread : Kind → Areas → Call → Bool

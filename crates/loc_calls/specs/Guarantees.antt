@@ -2,37 +2,41 @@
 -- (document 01, "What each call gives"; "file.rs, length only"). Each is said of any outcome of areas, then of all calls at once.
 use Prim.Native.Nat.{ℕ, _≤_}
 use mathlib.Core.Path.{_≡_}
-use mathlib.Core.List.{List, []}
+use mathlib.Core.List.{List, [], _∷_}
 use lib.ListN.{take, drop}
 use Rattle.loc_leaf.specs.declared.Kind.{Kind}
 use Rattle.loc_calls.specs.Areas.{each, Areas, sizes}
 use Rattle.loc_calls.specs.Table.{Call}
 use Rattle.loc_calls.specs.Calls.{Outcome, lent, call, create, audit}
+use Rattle.loc_calls.specs.SpanAt.{spanAtOutcome}
 
 -- ---- every call
 
--- open, append, truncate and read of a kind, at s places; create; audit of a kind
+-- open, append, truncate and read of a kind, at s places; create; audit of a kind; span_at an address
 pub data AnyCall : Type 0 where
   indexCall : Kind → ℕ → Call → AnyCall
   creation : AnyCall
   auditing : Kind → AnyCall
+  locating : ℕ → AnyCall
 
 unfoldable pub outcome : AnyCall → Areas → Outcome
 outcome (indexCall k s c) a = call k s c a
 outcome creation a = create a
 outcome (auditing k) a = audit k a
+outcome (locating x) a = spanAtOutcome x a
 
--- the answer buffer as it was lent: only a reading has one
+-- the answer buffer as it was lent: a reading has one, and the three words of span_at begin as 0
 unfoldable pub lentTo : AnyCall → List ℕ
 lentTo (indexCall k s c) = lent c
 lentTo creation = []
 lentTo (auditing k) = []
+lentTo (locating x) = 0 ∷ 0 ∷ 0 ∷ []
 
 -- ---- numbers and refusals
 
 -- the table's largest number
 abbrev pub largest : ℕ
-largest = 20
+largest = 21
 
 -- the column "Number": a call gives 0 or a number of the table
 unfoldable pub InTable : (Areas → Outcome) → Type 0

@@ -4,5 +4,6 @@ pub mod Stores
 pub mod Reading
 pub mod Audit
 pub mod Calls
+pub mod SpanAt
 pub mod Promises
 pub mod Guarantees

@@ -10,6 +10,7 @@ use Rattle.loc_leaf.specs.declared.Kind.the-variants.{Paired, Single}
 use Rattle.loc_leaf.specs.declared.Value.{Value}
 use Rattle.loc_leaf.specs.declared.delta_loc.Lookup.{Lookup}
 use Rattle.loc_leaf.specs.declared.delta_loc.Lookup.the-variants.{Found, Missing}
+use Rattle.loc_leaf.specs.Answers.{refuse, _orElse_}
 use Rattle.loc_leaf.specs.Bytes.{Bytes, numberAt}
 use Rattle.loc_leaf.specs.Kind.{checkpointWidth, windowOf, withinWindow}
 use Rattle.loc_leaf.specs.Slot.{slotAt}
@@ -27,6 +28,11 @@ unfoldable pub allAfter : (ℕ → Bool) → ℕ → ℕ → Bool
 allAfter f m zero = true
 allAfter f m (suc n) = allAfter f m n && f (m + suc n)
 
+-- the lowest of them that passes a test, 0 where none does
+unfoldable pub firstAfter : (ℕ → Bool) → ℕ → ℕ → ℕ
+firstAfter f m zero = 0
+firstAfter f m (suc n) = firstAfter f m n orElse refuse (f (m + suc n)) (m + suc n)
+
 -- ---- records
 
 -- what slot and row say of record id
@@ -41,7 +47,11 @@ has Missing = false
 unfoldable pub valueAt : Kind → Areas → ℕ → Value
 valueAt k a id = valueIn (lookupAt k a id)
 
--- the strides and the spans of the n records that follow record m
+-- none of the n records that follow record m lacks its row
+abbrev pub complete : Kind → Areas → ℕ → ℕ → Bool
+complete k a m n = allAfter (λ i. has (lookupAt k a i)) m n
+
+-- their strides and their spans
 unfoldable pub stridesAfter : Kind → Areas → ℕ → ℕ → ℕ
 stridesAfter k a m n = sumAfter (λ i. (valueAt k a i) .strides) m n
 
@@ -76,7 +86,7 @@ within n id = ltb 0 id && leb id n
 
 -- 17: a slot that is looked at needs a row and has none
 unfoldable pub rowMissing : Kind → Areas → ℕ → Bool
-rowMissing k a id = within (count a) id && not (allAfter (λ i. has (lookupAt k a i)) (before id) (lookedAt k (count a) id))
+rowMissing k a id = within (count a) id && not (complete k a (before id) (lookedAt k (count a) id))
 
 unfoldable pub anyMissing : Kind → Areas → List ℕ → Bool
 anyMissing k a [] = false

@@ -102,8 +102,11 @@ module _ (k : Kind) (a : Areas) (L : List Rec) (t : Steady k a L) where
           inside = unfold within in q
       go (inr q) = rw q refl
 
+  pub words-book : wordsFor k a ≡ bookWords k L
+  words-book = fun-ext words-same
+
   pub buffer-same : (c : Call) → buffer c (wordsFor k a) ≡ buffer c (bookWords k L)
-  buffer-same c = ap (buffer c) (fun-ext words-same)
+  buffer-same c = ap (buffer c) words-book
 
 -- ---- a call that the index and the book refuse alike
 

@@ -5,3 +5,4 @@ pub mod Calls
 pub mod History
 pub mod Numbers
 pub mod Kept
+pub mod Located

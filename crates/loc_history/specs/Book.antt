@@ -11,10 +11,12 @@ use Rattle.loc_leaf.specs.declared.Answer.{Answer}
 use Rattle.loc_leaf.specs.Answers.{answer}
 use Rattle.loc_leaf.specs.Kind.{rowWidth, checkpointWidth}
 use Rattle.loc_leaf.specs.Slot.{storedAsZero}
+use Rattle.loc_calls.specs.declared.SpanAt.{SpanAt}
 use Rattle.loc_calls.specs.Areas.{Three}
 use Rattle.loc_calls.specs.Table.{Entry, Batch, Call, opening, append, truncate, read, entries, wordWidth, table}
 use Rattle.loc_calls.specs.Reading.{within}
 use Rattle.loc_calls.specs.Calls.{unlessRefused, value, lent, buffer}
+use Rattle.loc_calls.specs.SpanAt.{spanAmong}
 
 -- it holds the records' lengths and, where paired, span counts (0 where single)
 pub record Rec : Type 0 where
@@ -97,6 +99,10 @@ bookReply k size L c = record {
   answer = answer (bookRefusal k size L c) (value c (length (bookNext k L c)));
   buffer = unlessRefused (bookRefusal k size L c) (buffer c (bookWords k L)) (lent c);
 }
+
+-- whose crossing is at address x (document 02, Item 2): by the words of its own list
+unfoldable pub bookSpanAt : List Rec → ℕ → SpanAt
+bookSpanAt L x = spanAmong (bookWords Paired L) (length L) x
 
 -- ---- tears
 

@@ -25,7 +25,7 @@ use Rattle.loc_premises.specs.Replies.{gives, refuses, reads, small, wid
 use Rattle.loc_premises.specs.Lawful.{story, storyReplies, singleStory, singleReplies, forgedStory, forgedReplies, longStory, longReplies}
 use Rattle.loc_premises.specs.Broken.{bytes15, openedSmall, startsAt24, leavesAGap, notOpened, tornAfterEnd, wideSpans}
 
-narrow : (n c : ℕ) → c < 2 ^ 32 → Narrow Paired (replicate n c)
+pub narrow : (n c : ℕ) → c < 2 ^ 32 → Narrow Paired (replicate n c)
 unfolding Narrow
 narrow zero c h = tt
 narrow (suc n) c h = (h, narrow n c h)

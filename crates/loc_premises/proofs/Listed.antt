@@ -18,7 +18,7 @@ use Rattle.loc_premises.specs.Listed.{listedStory, Listed}
 use Rattle.loc_premises.proofs.Examples.{everything, Computed, computed}
 
 -- to unfold this is to unfold all that a listing in a history is computed by
-unfoldable listings : Type 0
+unfoldable pub listings : Type 0
 unfolding everything digits decimal line names begins goesOn digitsOn startsAt numberAt _then_ lineAt fieldsRefusal added ifWhole linesFrom parsed listingRefusal appendListing indexAfterAny indexGivesAny anyIndexReplies bookAfterAny bookGivesAny anyBookReplies LawfulListing LawfulAny isAnyTear AllLawful
 listings = Unit
 
@@ -31,7 +31,7 @@ infixr 20 _before_
 abbrev _before_ : {A B : Type 0} → A → B → A × B
 x before y = (x, y)
 
-lawful : AllLawful (sizes small) false [] listedStory
+pub lawful : AllLawful (sizes small) false [] listedStory
 unfolding listings
 lawful =
     ((λ p. p), λ _. record { starts = (refl, refl); carries = tt; ends = (omega arith, omega arith) })

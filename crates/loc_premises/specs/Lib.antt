@@ -2,3 +2,4 @@ pub mod Replies
 pub mod Lawful
 pub mod Broken
 pub mod Listed
+pub mod Located

@@ -3,3 +3,4 @@ pub mod Placed
 pub mod Accepted
 pub mod Listings
 pub mod RoundTrip
+pub mod Located
