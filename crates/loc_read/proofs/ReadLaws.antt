@@ -92,19 +92,19 @@ module _ (k : Kind) (a : Areas) (ids out : List ℕ) where
         (straight (wordWidth k * length ids) out new long same)
 
 -- what the walk asks
-pub readable : (k : Kind) (s r c : Bytes) (ids out : List ℕ) (n nr : ℕ) → Tested k (areas s r c) ids out → n ≡ fill 2 s → 2 * n ≤ length s - 16 → length s < 2 ^ 64
+pub readable : (k : Kind) (s r c : Bytes) (n nr : ℕ) → 0 ≡ firstRefusal k (areas s r c) → n ≡ fill 2 s → 2 * n ≤ length s - 16 → length s < 2 ^ 64
     → nr ≡ fill (rowWidth k) r → Readable k (areas s r c) n nr
 unfolding count
-readable k s r c ids out n nr t en h l er =
+readable k s r c n nr e en h l er =
     record {
       counted = en;
       room = omega (arith, h, hold);
       low = omega (arith, h, hold);
-      rise = record { ascend = accepted-ascends k s r c 0 (t .opened) refl; counted = er };
+      rise = record { ascend = accepted-ascends k s r c 0 e refl; counted = er };
     }
   where
     hold : 16 ≤ length s
-    hold = accepted-sized k s r c 0 (t .opened) refl .slotsHold
+    hold = accepted-sized k s r c 0 e refl .slotsHold
 
 pub slots-room : (s : Bytes) → 2 * fill 2 s ≤ length s - 16
 unfolding fill

@@ -24,11 +24,12 @@ use Rattle.loc_order.proofs.KeyLaws.{keys-right, keys-meet, places-at}
 use Rattle.loc_answer.specs.Words.{RunSafe, Agrees, RunPut}
 use Rattle.loc_answer.proofs.AnswerLaws.{zeros-has}
 use Rattle.loc_window.specs.declared.Sums.{Sums}
-use Rattle.loc_window.specs.Window.{placed, complete, Stored, Copied}
+use Rattle.loc_window.specs.Window.{placed, complete, Stored, Summing, Copied}
+use Rattle.loc_window.proofs.SummingLaws.{summed-known, summed-stored}
 use Rattle.loc_read.specs.Runs.{IsRun}
-use Rattle.loc_read.specs.Walk.{Readable, Summing, rightAt, HasRight, Passing, Answered, Finished}
+use Rattle.loc_read.specs.Walk.{Readable, rightAt, HasRight, Passing, Answered, Finished}
 use Rattle.loc_read.proofs.RunLaws.{looked-few, looked-counted, key-there, key-some, key-counted, own-number}
-use Rattle.loc_read.proofs.WindowLaws.{summed-known, summed-stored, window-lacks, window-complete, window-summed, window-words}
+use Rattle.loc_read.proofs.WindowLaws.{window-lacks, window-complete, window-summed, window-words}
 
 pub ordered-keys : (n : ℕ) (ids keys : List ℕ) → length ids ≤ 1024 → keys ≡ sorted (keysFrom n 0 ids) → All (KeyOf n ids) keys
 ordered-keys n ids keys h e = subst⁻¹ (All (KeyOf n ids)) e (keys-right n ids h)
@@ -83,12 +84,12 @@ module _ (k : Kind) (a : Areas) (n nr : ℕ) (ids keys : List ℕ) (rd : Readabl
           any-at k a ids (placeOf (getD keys (run .most) 0)) (key-there n ids keys ks (run .most) (omega (arith, run .mostEnd, run .inside)))
           (window-lacks k a n nr ids keys i end f m stamp mark bytes old [] [] rd ks run first copied e)
 
-      module _ (block : ℕ) (s : Sums) (body span : List ℕ) (w : Summing k f m bytes (a .rows) nr mark stamp block s body span) (h : m ≤ 8 * block) where
+      module _ (block : ℕ) (s : Sums) (body span : List ℕ) (w : Summing k 1025 f m bytes (a .rows) nr mark stamp block s body span) (h : m ≤ 8 * block) where
         abbrev known : complete k (placed f bytes (a .rows)) f m ≡ true
-        known = summed-known k f m bytes (a .rows) nr mark stamp block s body span w h
+        known = summed-known k 1025 f m bytes (a .rows) nr mark stamp block s body span w h
 
         abbrev stored : Stored k f bytes (a .rows) mark stamp m body span
-        stored = summed-stored k f m bytes (a .rows) nr mark stamp block s body span w h
+        stored = summed-stored k 1025 f m bytes (a .rows) nr mark stamp block s body span w h
 
         pub run-safe : (out : List ℕ) → wordWidth k * length ids ≤ length out → RunSafe k ids keys i end body span out
         run-safe out room =

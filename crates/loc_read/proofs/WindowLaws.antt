@@ -1,7 +1,7 @@
--- One window of the walk: its slot loop, and what its sums say of the wanted numbers that lie in it.
+-- One window of the walk: where its slot loop begins, and what its sums say of the wanted numbers that lie in it.
 -- f is the record before the window, m how many of its records are looked at.
-use Prim.Native.Nat.{ℕ, zero, suc, _+_, _-_, _*_, _^_, _≤_, _<_, min}
-use mathlib.Core.Path.{_≡_, refl, sym, ap, _∙_, subst}
+use Prim.Native.Nat.{ℕ, zero, suc, _+_, _-_, _*_, _^_, _≤_, _<_}
+use mathlib.Core.Path.{_≡_, refl, sym, ap, _∙_}
 use mathlib.Core.Logic.{_⊎_, inl, inr}
 use mathlib.Core.Bool.{Bool, true, false, not, _&&_, false≢true}
 use mathlib.Core.List.{List}
@@ -23,97 +23,21 @@ use Rattle.loc_order.specs.Order.{All}
 use Rattle.loc_order.specs.Keys.{wantedBy, KeyOf}
 use Rattle.loc_order.proofs.OrderLaws.{all-at}
 use Rattle.loc_answer.specs.Words.{Summed, sumWords}
-use Rattle.loc_window.specs.declared.Sums.{Sums}
-use Rattle.loc_window.specs.declared.Step.{Step}
-use Rattle.loc_window.specs.declared.Step.the-variants.{Next}
-use Rattle.loc_window.specs.Window.{placed, complete, Rising, After, sumsOf, Right, Ready, Stored, SlotStepped, Copied}
-use Rattle.loc_window.proofs.SumLaws.{all-more, after-at}
-use Rattle.loc_window.proofs.StepLaws.{slot-next}
-use Rattle.loc_window.proofs.WindowLaws.{after-none, stored-none, complete-same, right-strides, right-spans}
+use Rattle.loc_window.specs.Window.{placed, complete, Rising, sumsOf, Right, Stored, Summing, Copied}
+use Rattle.loc_window.proofs.SumLaws.{all-more}
+use Rattle.loc_window.proofs.WindowLaws.{past-rows, complete-same, right-strides, right-spans}
+use Rattle.loc_window.proofs.SummingLaws.{summing-begins}
 use Rattle.loc_read.specs.Runs.{IsRun}
-use Rattle.loc_read.specs.Walk.{Readable, Summing}
+use Rattle.loc_read.specs.Walk.{Readable}
 use Rattle.loc_read.proofs.RunLaws.{looked-own, key-some, key-counted}
 
--- ---- the slot loop
+-- ---- where the slot loop begins
 
-module _ (k : Kind) (f m : ℕ) (bytes rows : Bytes) (nr : ℕ) (mark : List ℕ) (stamp : ℕ) where
-  pub summing-none : (body span : List ℕ) → m ≤ 1024 → f + 1024 < 2 ^ 64 → Rising k rows nr → length bytes ≡ 2048 → length body ≡ 1025 → length span ≡ 1025
-      → Summing k f m bytes rows nr mark stamp 0 (sumsOf 0 0 (nr + 1) 0) body span
-  summing-none body span few low rise eb e₁ e₂ =
-      record {
-        bound = omega arith;
-        bodyLong = e₁;
-        spanLong = e₂;
-        ready = subst (λ (i : ℕ). Ready k f bytes rows nr i m (sumsOf 0 0 (nr + 1) 0) body span) none ready;
-        stored = subst (λ (i : ℕ). Stored k f bytes rows mark stamp i body span) none (stored-none k f bytes rows mark stamp body span);
-      }
-    where
-      none : 0 ≡ min (8 * 0) m
-      none = omega arith
-
-      ready : Ready k f bytes rows nr 0 m (sumsOf 0 0 (nr + 1) 0) body span
-      ready =
-          record {
-            order = omega arith;
-            few = few;
-            copied = omega arith;
-            bodyRoom = omega arith;
-            spanRoom = omega arith;
-            numbers = low;
-            rise = rise;
-            after = after-none k f bytes rows nr rise;
-          }
-
-  module _ (block : ℕ) (s : Sums) (body span : List ℕ) (w : Summing k f m bytes rows nr mark stamp block s body span) where
-    pub summing-asks : length mark ≡ 128 → 8 * block < m
-        → ((length mark ≡ 128) × (8 * block < m) × Ready k f bytes rows nr (8 * block) m s body span) × Stored k f bytes rows mark stamp (8 * block) body span
-    summing-asks long h = (
-      (long, h, subst (λ (i : ℕ). Ready k f bytes rows nr i m s body span) whole (w .ready)),
-      subst (λ (i : ℕ). Stored k f bytes rows mark stamp i body span) whole (w .stored),
-    )
-      where
-        whole : min (8 * block) m ≡ 8 * block
-        whole = omega arith
-
-    -- blocks grow
-    pub summing-more : (r : Step) (t : Sums) (body′ span′ : List ℕ) → SlotStepped k f bytes rows mark stamp block m body′ span′ r → r ≡ Next t → (block < t .block) × (8 * t .block < m + 8)
-    summing-more r t body′ span′ v e = let n = slot-next k f bytes rows mark stamp block m body′ span′ r v t e in (n .0, n .1)
-
-    pub summing-next : (r : Step) (t : Sums) (body′ span′ : List ℕ) → SlotStepped k f bytes rows mark stamp block m body′ span′ r → r ≡ Next t
-        → length body′ ≡ length body → length span′ ≡ length span
-        → Summing k f m bytes rows nr mark stamp (t .block) (sumsOf (t .strides) (t .spans) (t .row) (t .block)) body′ span′
-    summing-next r t body′ span′ v e e₁ e₂ =
-        record {
-          bound = more .1;
-          bodyLong = e₁ ∙ w .bodyLong;
-          spanLong = e₂ ∙ w .spanLong;
-          ready =
-              record {
-                order = omega arith;
-                few = w .ready .few;
-                copied = w .ready .copied;
-                bodyRoom = omega (arith, w .ready .bodyRoom);
-                spanRoom = omega (arith, w .ready .spanRoom);
-                numbers = w .ready .numbers;
-                rise = w .ready .rise;
-                after = after-at k f bytes rows _ _ t (more .2);
-              };
-          stored = more .3;
-        }
-      where
-        more : (block < t .block) × (8 * t .block < m + 8) × After k f bytes rows (min (8 * t .block) m) t × Stored k f bytes rows mark stamp (min (8 * t .block) m) body′ span′
-        more = slot-next k f bytes rows mark stamp block m body′ span′ r v t e
-
-    -- the loop has ended
-    module _ (h : m ≤ 8 * block) where
-      all : min (8 * block) m ≡ m
-      all = omega arith
-
-      pub summed-known : complete k (placed f bytes rows) f m ≡ true
-      summed-known = subst (λ (i : ℕ). complete k (placed f bytes rows) f i ≡ true) all (w .ready .after .known)
-
-      pub summed-stored : Stored k f bytes rows mark stamp m body span
-      summed-stored = subst (λ (i : ℕ). Stored k f bytes rows mark stamp i body span) all (w .stored)
+-- in reading's arrays, with the rows not looked at yet
+pub summing-none : (k : Kind) (f m : ℕ) (bytes rows : Bytes) (nr : ℕ) (mark : List ℕ) (stamp : ℕ) (body span : List ℕ) → m ≤ 1024 → f + 1024 < 2 ^ 64 → Rising k rows nr
+    → length bytes ≡ 2048 → length body ≡ 1025 → length span ≡ 1025 → Summing k 1025 f m bytes rows nr mark stamp 0 (sumsOf 0 0 (nr + 1) 0) body span
+summing-none k f m bytes rows nr mark stamp body span few low rise eb e₁ e₂ =
+    summing-begins k 1025 f m bytes rows nr mark stamp (nr + 1) body span few (omega arith) low rise (past-rows k f bytes rows nr rise) (omega arith) e₁ e₂
 
 -- ---- where a window's bodies and spans begin
 

@@ -1,6 +1,6 @@
 -- The walk over the windows of sorted keys.
 -- ids are the wanted numbers, n is the count, nr counts the rows.
-use Prim.Native.Nat.{ℕ, _+_, _*_, _^_, _≤_, _<_, min}
+use Prim.Native.Nat.{ℕ, _+_, _*_, _^_, _≤_, _<_}
 use mathlib.Core.Path.{_≡_}
 use mathlib.Core.Bool.{false}
 use mathlib.Core.List.{List}
@@ -14,7 +14,7 @@ use Rattle.loc_calls.specs.Reading.{rowMissing, anyMissing, wordsFor}
 use Rattle.loc_order.specs.Keys.{placeOf, wantedBy}
 use Rattle.loc_answer.specs.Words.{Has}
 use Rattle.loc_window.specs.declared.Sums.{Sums}
-use Rattle.loc_window.specs.Window.{Rising, Ready, Stored}
+use Rattle.loc_window.specs.Window.{Rising, Summing}
 
 -- what the walk asks of the areas: so many records and rows are published, and the rows ascend
 pub record Readable (k : Kind) (a : Areas) (n nr : ℕ) : Type 0 where
@@ -23,19 +23,11 @@ pub record Readable (k : Kind) (a : Areas) (n nr : ℕ) : Type 0 where
   pub low : 16 + 2 * n < 2 ^ 64
   pub rise : Rising k (a .rows) nr
 
--- the blocks before a block of a window's first m records are summed
-pub record Summing (k : Kind) (f m : ℕ) (bytes rows : Bytes) (nr : ℕ) (mark : List ℕ) (stamp block : ℕ) (s : Sums) (body span : List ℕ) : Type 0 where
-  pub bound : 8 * block < m + 8
-  pub bodyLong : length body ≡ 1025
-  pub spanLong : length span ≡ 1025
-  pub ready : Ready k f bytes rows nr (min (8 * block) m) m s body span
-  pub stored : Stored k f bytes rows mark stamp (min (8 * block) m) body span
-
--- all m are
+-- all of a window's first m records are summed
 pub record WindowSummed (k : Kind) (f m : ℕ) (bytes rows : Bytes) (nr : ℕ) (mark : List ℕ) (stamp : ℕ) (body span : List ℕ) : Type 0 where
   pub block : ℕ
   pub sums : Sums
-  pub summing : Summing k f m bytes rows nr mark stamp block sums body span
+  pub summing : Summing k 1025 f m bytes rows nr mark stamp block sums body span
   pub ended : m ≤ 8 * block
 
 -- the words that are right at a place

@@ -9,9 +9,9 @@ ghost use Rattle.loc_calls.specs.Areas.{areas};
 ghost use Rattle.loc_calls.specs.Table.{read};
 ghost use Rattle.loc_calls.specs.Calls.{call};
 ghost use Rattle.loc_calls.specs.Promises.{Read};
-ghost use Rattle.loc_window.specs.Window.{placed, complete, sumsOf};
+ghost use Rattle.loc_window.specs.Window.{placed, complete, sumsOf, Summing};
 ghost use Rattle.loc_read.specs.Runs.{OneRun};
-ghost use Rattle.loc_read.specs.Walk.{Summing, WindowSummed};
+ghost use Rattle.loc_read.specs.Walk.{WindowSummed};
 ghost use Rattle.loc_read.specs.Read.{Tested};
 use crate::walk::window_end;
 use loc_answer::put::put_window;
@@ -38,7 +38,7 @@ fn window_sums(
     body: &mut [u64],
     span: &mut [u64],
 ) -> bool
-    requires { ⌜ (length (now mark) ≡ 128) × Summing kind first m (now bytes) (now rows) «row_count» (now mark) 1 0 (sumsOf 0 0 («row_count» + 1) 0) (now body) (now span) ⌝ }
+    requires { ⌜ (length (now mark) ≡ 128) × Summing kind 1025 first m (now bytes) (now rows) «row_count» (now mark) 1 0 (sumsOf 0 0 («row_count» + 1) 0) (now body) (now span) ⌝ }
     ensures { λ r. ⌜ (r ≡ true → WindowSummed kind first m (now (bytes .entry)) (now (rows .entry)) «row_count» (now (mark .entry)) 1 (now (body .exit)) (now (span .exit)))
         × (r ≡ false → complete kind (placed first (now (bytes .entry)) (now (rows .entry))) first m ≡ false) ⌝ }
 {

@@ -7,3 +7,4 @@ pub mod RecordLaws
 pub mod StepLaws
 pub mod BlocksLaws
 pub mod WindowLaws
+pub mod SummingLaws

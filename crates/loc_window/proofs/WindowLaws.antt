@@ -15,24 +15,29 @@ use Rattle.loc_leaf.specs.Slot.{slotAt}
 use Rattle.loc_leaf.specs.Rows.{rowList, valueIn}
 use Rattle.loc_calls.specs.Areas.{Areas}
 use Rattle.loc_calls.specs.Reading.{sumAfter, allAfter, lookupAt, has, valueAt, stridesAfter, spansAfter}
-use Rattle.loc_window.specs.Window.{placed, complete, Rising, After, sumsOf, Right, Stored, Copied}
+use Rattle.loc_window.specs.Window.{placed, complete, Passed, Rising, After, sumsOf, Right, Stored, Copied}
 use Rattle.loc_leaf.proofs.RowLaws.{rows-count}
 use Rattle.loc_window.proofs.SumLaws.{slot-two, lookup-is}
 
 -- ---- the begin
 
 module _ (k : Kind) (f : ℕ) (bytes rows : Bytes) where
-  pub after-none : (count : ℕ) → Rising k rows count → After k f bytes rows 0 (sumsOf 0 0 (count + 1) 0)
+  -- no record yet, and some rows passed
+  pub after-none : (row : ℕ) → Passed (rowList k rows) row f → After k f bytes rows 0 (sumsOf 0 0 row 0)
   unfolding allAfter stridesAfter spansAfter sumAfter
-  after-none count r =
+  after-none row p =
       record {
         known = refl;
         isStrides = refl;
         isSpans = refl;
         stridesLow = omega arith;
         spansLow = omega arith;
-        passed = λ h. absurd (omega (arith, rows-count k rows, r .counted));
+        passed = λ h i l. omega (arith, p h i l);
       }
+
+  -- a place past the rows says nothing
+  pub past-rows : (count : ℕ) → Rising k rows count → Passed (rowList k rows) (count + 1) f
+  past-rows count r h = absurd (omega (arith, rows-count k rows, r .counted))
 
   pub stored-none : (mark : List ℕ) (stamp : ℕ) (body span : List ℕ) → Stored k f bytes rows mark stamp 0 body span
   stored-none mark stamp body span = record { here = λ j h. absurd (not-suc-le-zero h); next = λ j h. absurd (not-suc-le-zero h) }
@@ -72,12 +77,12 @@ module _ (k : Kind) (a : Areas) (f m : ℕ) (bytes old : Bytes) (w : Copied (a .
       all-same (λ i. has (lookupAt k (placed f bytes (a .rows)) i)) (λ i. has (lookupAt k a i)) f m (λ j h. ap has (lookup-same j h)) n l
 
   -- the sums
-  strides-same : (n : ℕ) → n ≤ m → stridesAfter k (placed f bytes (a .rows)) f n ≡ stridesAfter k a f n
+  pub strides-same : (n : ℕ) → n ≤ m → stridesAfter k (placed f bytes (a .rows)) f n ≡ stridesAfter k a f n
   unfolding stridesAfter valueAt
   strides-same n l =
       sum-same (λ i. (valueAt k (placed f bytes (a .rows)) i) .strides) (λ i. (valueAt k a i) .strides) f m (λ j h. ap (λ (v : Lookup). valueIn v .strides) (lookup-same j h)) n l
 
-  spans-same : (n : ℕ) → n ≤ m → spansAfter k (placed f bytes (a .rows)) f n ≡ spansAfter k a f n
+  pub spans-same : (n : ℕ) → n ≤ m → spansAfter k (placed f bytes (a .rows)) f n ≡ spansAfter k a f n
   unfolding spansAfter valueAt
   spans-same n l =
       sum-same (λ i. (valueAt k (placed f bytes (a .rows)) i) .spans) (λ i. (valueAt k a i) .spans) f m (λ j h. ap (λ (v : Lookup). valueIn v .spans) (lookup-same j h)) n l

@@ -2,7 +2,7 @@
 -- They are those of the reading (loc_calls), on areas that have the copied slots in their place.
 use Prim.Native.Nat.{ℕ, _+_, _-_, _*_, _/_, _^_, _≤_, _<_, min}
 use mathlib.Core.Path.{_≡_}
-use mathlib.Core.Bool.{Bool, true, false}
+use mathlib.Core.Bool.{true, false}
 use mathlib.Core.List.{List, [], _++_}
 use lib.ListN.{length, getD, replicate}
 use Rattle.loc_leaf.specs.declared.Kind.{Kind}
@@ -13,7 +13,8 @@ use Rattle.loc_leaf.specs.declared.Value.{Value}
 use Rattle.loc_leaf.specs.declared.delta_loc.Lookup.the-variants.{Found, Missing}
 use Rattle.loc_leaf.specs.Rows.{rowList, rowValue, ascending, numberIn, lookupByHalves}
 use Rattle.loc_calls.specs.Areas.{Areas}
-use Rattle.loc_calls.specs.Reading.{allAfter, lookupAt, has, stridesAfter, spansAfter}
+pub use Rattle.loc_calls.specs.Reading.{complete}
+use Rattle.loc_calls.specs.Reading.{stridesAfter, spansAfter}
 use Rattle.loc_leaf.specs.Slot.{needsRow}
 pub use Rattle.loc_window.specs.Block.{slotOf}
 use Rattle.loc_window.specs.Block.{rowMask, inlineStrides, inlineSpans}
@@ -24,10 +25,6 @@ use Rattle.loc_window.specs.declared.Step.the-variants.{Next, Lack}
 -- areas whose slots of the records that follow record f are these bytes
 unfoldable pub placed : ℕ → Bytes → Bytes → Areas
 placed f bytes rows = record { slots = replicate (16 + 2 * f) 0 ++ bytes; rows = rows; checkpoints = [] }
-
--- none of the n records that follow record f lacks its row
-abbrev pub complete : Kind → Areas → ℕ → ℕ → Bool
-complete k a f n = allAfter (λ i. has (lookupAt k a i)) f n
 
 -- the rows before a place are numbered up to id; a place past the rows says nothing
 abbrev pub Passed : List Bytes → ℕ → ℕ → Type 0
@@ -167,6 +164,14 @@ SlotStepped k f bytes rows mark stamp block m body span (Next s) =
     (block < s .block) × (8 * s .block < m + 8)
     × After k f bytes rows (min (8 * s .block) m) s × Stored k f bytes rows mark stamp (min (8 * s .block) m) body span
 SlotStepped k f bytes rows mark stamp block m body span Lack = complete k (placed f bytes rows) f m ≡ false
+
+-- the blocks before a block of the window's first m records are summed, in arrays of some length
+pub record Summing (k : Kind) (long f m : ℕ) (bytes rows : Bytes) (nr : ℕ) (mark : List ℕ) (stamp block : ℕ) (s : Sums) (body span : List ℕ) : Type 0 where
+  pub bound : 8 * block < m + 8
+  pub bodyLong : length body ≡ long
+  pub spanLong : length span ≡ long
+  pub ready : Ready k f bytes rows nr (min (8 * block) m) m s body span
+  pub stored : Stored k f bytes rows mark stamp (min (8 * block) m) body span
 
 -- ---- the copy
 

@@ -31,7 +31,7 @@ slice-aggregate-finish-range-batch : tie.Need-slice-aggregate-finish-range-batch
 slice-aggregate-finish-range-batch c = sym (length-take-le _ _ (omega (arith, c .before .before .before .before .before .plan-range-batch .ensures .1, c .before .before .before .before .before .before .before .before .before .before .before .before .before .before .before .before .before .before .before .pre .1 .0, c .before .before .before .before .before .plan-range-batch .kept .1 .1 .0)))
 
 finish-range-batch-requires : tie.Need-finish-range-batch-requires
-finish-range-batch-requires c κs = (readable _ _ _ _ _ _ _ _ (c .before .before .before .before .before .before .before .before .before .before .before .before .before .before .before .before .before .before .before .before .pre .0) (c .before .before .before .before .before .before .before .before .before .before .before .piece-count .ensures .0) (c .before .before .before .before .before .before .before .before .before .before .before .piece-count .ensures .1) (search needs) (c .before .before .before .before .before .before .before .before .before .piece-count2 .ensures .0 ∙ ap (λ (w : ℕ). fill w (now (c .before .before .before .before .before .before .before .before .before .before .before .before .before .before .before .before .before .before .before .before .args .rows))) (c .before .before .before .before .before .before .before .before .before .before .row-width .ensures .0)), (c .before .before .before .before .before .before .before .before .before .before .before .before .before .before .before .before .before .before .before .before .pre .0 .few, c .before .before .before .before .before .before .plan-range-batch .ensures .2, c .before .before .before .before .before .before .before .before .before .before .before .before .before .before .before .before .before .before .before .before .pre .1 .2, c .before .before .before .before .before .before .before .before .before .before .before .before .before .before .before .before .before .before .before .before .pre .1 .3))
+finish-range-batch-requires c κs = (readable _ _ _ _ _ _ (c .before .before .before .before .before .before .before .before .before .before .before .before .before .before .before .before .before .before .before .before .pre .0 .opened) (c .before .before .before .before .before .before .before .before .before .before .before .piece-count .ensures .0) (c .before .before .before .before .before .before .before .before .before .before .before .piece-count .ensures .1) (search needs) (c .before .before .before .before .before .before .before .before .before .piece-count2 .ensures .0 ∙ ap (λ (w : ℕ). fill w (now (c .before .before .before .before .before .before .before .before .before .before .before .before .before .before .before .before .before .before .before .before .args .rows))) (c .before .before .before .before .before .before .before .before .before .before .row-width .ensures .0)), (c .before .before .before .before .before .before .before .before .before .before .before .before .before .before .before .before .before .before .before .before .pre .0 .few, c .before .before .before .before .before .before .plan-range-batch .ensures .2, c .before .before .before .before .before .before .before .before .before .before .before .before .before .before .before .before .before .before .before .before .pre .1 .2, c .before .before .before .before .before .before .before .before .before .before .before .before .before .before .before .before .before .before .before .before .pre .1 .3))
 
 same-length : tie.Need-same-length
 same-length c = search needs

@@ -4,20 +4,21 @@ use mathlib.Core.Path.{_≡_, refl, ap, _∙_}
 use native.Mathlib.Omega.{arith}
 use lib.ListN.{length-replicate, length}
 use borrow.Author.Needs.{needs}
-use Rattle.loc_window.specs.Window.{sumsOf}
+use Rattle.loc_window.specs.Window.{sumsOf, Summing}
 use Rattle.loc_window.proofs.StepLaws.{slot-lack}
 use Rattle.loc_window.proofs.PassedLaws.{few-rows}
 use Rattle.loc_leaf.specs.Kind.{windowOf}
 use Rattle.loc_calls.specs.Areas.{areas}
-use Rattle.loc_read.proofs.WindowLaws.{end-of-bodies, end-of-spans, summing-none, summing-asks, summing-more, summing-next}
+use Rattle.loc_window.proofs.SummingLaws.{summing-asks, summing-more, summing-next}
+use Rattle.loc_read.proofs.WindowLaws.{end-of-bodies, end-of-spans, summing-none}
 use Rattle.loc_read.proofs.WalkLaws.{run-published, ordered-keys, passing-none, run-few, run-room, run-low, run-lacks, run-safe, passing-next, finished-17, finished-0}
 use Rattle.loc_read.proofs.RunLaws.{key-there}
-use Rattle.loc_read.specs.Walk.{Summing, Passing}
+use Rattle.loc_read.specs.Walk.{Passing}
 use Rattle.loc_read.proofs.walk.finish_range_batch.Statement.{statement}
 use Rattle.loc_read.proofs.walk.finish_range_batch.Tie as tie
 
 abbrev Inv-loop : tie.InvT-loop
-Inv-loop kind slots rows checkpoints count row-count wanted keys out bytes body₀ span₀ mark number₀ i stamp run m w first strides₀ spans₀ row₀ block₀ body span number strides spans row block = (number ≡ 0) × Summing kind first m bytes rows row-count mark stamp block (sumsOf strides spans row block) body span
+Inv-loop kind slots rows checkpoints count row-count wanted keys out bytes body₀ span₀ mark number₀ i stamp run m w first strides₀ spans₀ row₀ block₀ body span number strides spans row block = (number ≡ 0) × Summing kind 1025 first m bytes rows row-count mark stamp block (sumsOf strides spans row block) body span
 
 abbrev μ-loop : tie.MeasureT-loop
 μ-loop kind slots rows checkpoints count row-count wanted keys out bytes body₀ span₀ mark number₀ i stamp run m w first strides₀ spans₀ row₀ block₀ body span number strides spans row block = m + 8 - 8 * block
@@ -91,16 +92,16 @@ slice-aggregate-slot-step-4 :
 slice-aggregate-slot-step-4 c = search needs
 
 slot-step-requires : tie.Need-slot-step-requires Inv-loop μ-loop Inv-windows μ-windows
-slot-step-requires c κs = summing-asks _ _ _ _ _ _ _ _ _ _ _ _ (c .before .before .before .before .before .loop .inv .1) (c .before .before .before .before .before .before .before .before .before .before .before .before .run-at .kept .1 .1 .1 .1 .1 .1 .0 ∙ c .before .before .before .before .before .before .before .before .before .before .before .before .before .before .before .windows .inv .4) (c .before .before .before .before .loop-test .taken)
+slot-step-requires c κs = summing-asks _ _ _ _ _ _ _ _ _ _ _ _ _ (c .before .before .before .before .before .loop .inv .1) (c .before .before .before .before .before .before .before .before .before .before .before .before .run-at .kept .1 .1 .1 .1 .1 .1 .0 ∙ c .before .before .before .before .before .before .before .before .before .before .before .before .before .before .before .windows .inv .4) (c .before .before .before .before .loop-test .taken)
 
 enum-known-step : tie.Need-enum-known-step Inv-loop μ-loop Inv-windows μ-windows
 enum-known-step c = search needs
 
 loop-less : tie.Need-loop-less Inv-loop μ-loop Inv-windows μ-windows
-loop-less c = omega (arith, summing-more _ _ _ _ _ _ _ _ _ _ _ _ (c .before .before .before .before .before .before .before .before .before .before .before .loop .inv .1) _ _ _ _ (c .before .before .before .before .before .slot-step .ensures) (c .before .step .given .1))
+loop-less c = omega (arith, summing-more _ _ _ _ _ _ _ _ _ _ _ _ _ (c .before .before .before .before .before .before .before .before .before .before .before .loop .inv .1) _ _ _ _ (c .before .before .before .before .before .slot-step .ensures) (c .before .step .given .1))
 
 loop-again : tie.Need-loop-again Inv-loop μ-loop Inv-windows μ-windows
-loop-again c = (c .before .before .before .before .before .before .before .before .before .before .before .loop .inv .0, summing-next _ _ _ _ _ _ _ _ _ _ _ _ (c .before .before .before .before .before .before .before .before .before .before .before .loop .inv .1) _ _ _ _ (c .before .before .before .before .before .slot-step .ensures) (c .before .step .given .1) (c .before .before .before .before .before .slot-step .kept .1 .1 .1 .1 .1 .1 .1 .1 .1 .1 .1 .1 .0) (c .before .before .before .before .before .slot-step .kept .1 .1 .1 .1 .1 .1 .1 .1 .1 .1 .1 .1 .1 .0))
+loop-again c = (c .before .before .before .before .before .before .before .before .before .before .before .loop .inv .0, summing-next _ _ _ _ _ _ _ _ _ _ _ _ _ (c .before .before .before .before .before .before .before .before .before .before .before .loop .inv .1) _ _ _ _ (c .before .before .before .before .before .slot-step .ensures) (c .before .step .given .1) (c .before .before .before .before .before .slot-step .kept .1 .1 .1 .1 .1 .1 .1 .1 .1 .1 .1 .1 .0) (c .before .before .before .before .before .slot-step .kept .1 .1 .1 .1 .1 .1 .1 .1 .1 .1 .1 .1 .1 .0))
 
 enum-told : tie.Need-enum-told Inv-loop μ-loop Inv-windows μ-windows
 enum-told c = search needs

@@ -4,16 +4,15 @@ use mathlib.Core.Path.{sym, _∙_}
 use mathlib.Core.Bool.{false≢true}
 use native.Mathlib.Omega.{arith}
 use borrow.Author.Needs.{needs}
-use Rattle.loc_window.specs.Window.{sumsOf}
+use Rattle.loc_window.specs.Window.{sumsOf, Summing}
 use Rattle.loc_window.proofs.PassedLaws.{few-rows}
 use Rattle.loc_window.proofs.StepLaws.{slot-lack}
-use Rattle.loc_read.specs.Walk.{Summing}
-use Rattle.loc_read.proofs.WindowLaws.{summing-asks, summing-more, summing-next}
+use Rattle.loc_window.proofs.SummingLaws.{summing-asks, summing-more, summing-next}
 use Rattle.loc_read.proofs.window.window_sums.Statement.{statement}
 use Rattle.loc_read.proofs.window.window_sums.Tie as tie
 
 abbrev Inv-loop : tie.InvT-loop
-Inv-loop kind bytes m mark rows row-count first body₀ span₀ strides₀ spans₀ row₀ block₀ body span strides spans row block = Summing kind first m bytes rows row-count mark 1 block (sumsOf strides spans row block) body span
+Inv-loop kind bytes m mark rows row-count first body₀ span₀ strides₀ spans₀ row₀ block₀ body span strides spans row block = Summing kind 1025 first m bytes rows row-count mark 1 block (sumsOf strides spans row block) body span
 
 abbrev μ-loop : tie.MeasureT-loop
 μ-loop kind bytes m mark rows row-count first body₀ span₀ strides₀ spans₀ row₀ block₀ body span strides spans row block = m + 8 - 8 * block
@@ -28,16 +27,16 @@ mul-loop : tie.Need-mul-loop Inv-loop μ-loop
 mul-loop c = omega (arith, c .loop .inv .bound, c .loop .inv .ready .few)
 
 slot-step-requires : tie.Need-slot-step-requires Inv-loop μ-loop
-slot-step-requires c κs = summing-asks _ _ _ _ _ _ _ _ _ _ _ _ (c .before .before .before .loop .inv) (c .before .before .before .before .before .before .before .before .before .pre .0) (c .before .before .loop-test .taken)
+slot-step-requires c κs = summing-asks _ _ _ _ _ _ _ _ _ _ _ _ _ (c .before .before .before .loop .inv) (c .before .before .before .before .before .before .before .before .before .pre .0) (c .before .before .loop-test .taken)
 
 enum-known-step : tie.Need-enum-known-step Inv-loop μ-loop
 enum-known-step c = search needs
 
 loop-less : tie.Need-loop-less Inv-loop μ-loop
-loop-less c = omega (arith, summing-more _ _ _ _ _ _ _ _ _ _ _ _ (c .before .before .before .before .before .before .before .before .before .before .before .loop .inv) _ _ _ _ (c .before .before .before .before .before .before .before .slot-step .ensures) (c .before .step .given .1))
+loop-less c = omega (arith, summing-more _ _ _ _ _ _ _ _ _ _ _ _ _ (c .before .before .before .before .before .before .before .before .before .before .before .loop .inv) _ _ _ _ (c .before .before .before .before .before .before .before .slot-step .ensures) (c .before .step .given .1))
 
 loop-again : tie.Need-loop-again Inv-loop μ-loop
-loop-again c = summing-next _ _ _ _ _ _ _ _ _ _ _ _ (c .before .before .before .before .before .before .before .before .before .before .before .loop .inv) _ _ _ _ (c .before .before .before .before .before .before .before .slot-step .ensures) (c .before .step .given .1) (c .before .before .before .before .before .before .before .slot-step .kept .1 .1 .1 .1 .1 .1 .1 .1 .1 .1 .1 .1 .0) (c .before .before .before .before .before .before .before .slot-step .kept .1 .1 .1 .1 .1 .1 .1 .1 .1 .1 .1 .1 .1 .0)
+loop-again c = summing-next _ _ _ _ _ _ _ _ _ _ _ _ _ (c .before .before .before .before .before .before .before .before .before .before .before .loop .inv) _ _ _ _ (c .before .before .before .before .before .before .before .slot-step .ensures) (c .before .step .given .1) (c .before .before .before .before .before .before .before .slot-step .kept .1 .1 .1 .1 .1 .1 .1 .1 .1 .1 .1 .1 .0) (c .before .before .before .before .before .before .before .slot-step .kept .1 .1 .1 .1 .1 .1 .1 .1 .1 .1 .1 .1 .1 .0)
 
 enum-told : tie.Need-enum-told Inv-loop μ-loop
 enum-told c = search needs

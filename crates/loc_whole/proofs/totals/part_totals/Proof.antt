@@ -1,0 +1,77 @@
+-- `loc_whole::totals::part_totals` meets its contract.
+use Prim.Native.Nat.{_+_, _-_, _*_}
+use mathlib.Core.Path.{sym, _∙_}
+use native.Mathlib.Omega.{arith}
+use borrow.Author.Needs.{needs}
+use Rattle.loc_leaf.specs.declared.Kind.the-variants.{Paired}
+use Rattle.loc_whole.proofs.TotalLaws.{part-ends, part-lacks}
+use Rattle.loc_whole.proofs.totals.part_totals.Statement.{statement}
+use Rattle.loc_whole.proofs.totals.part_totals.Tie as tie
+use Rattle.loc_window.proofs.StepLaws.{slot-lack}
+use Rattle.loc_window.proofs.SummingLaws.{summing-asks, summing-more, summing-next}
+use Rattle.loc_window.specs.Window.{sumsOf, Summing}
+
+abbrev Inv-loop : tie.InvT-loop
+Inv-loop bytes m mark stamp rows row-count first row body₀ span₀ strides₀ spans₀ passed₀ block₀ body span strides spans passed block = Summing Paired 257 first m bytes rows row-count mark stamp block (sumsOf strides spans passed block) body span
+
+abbrev μ-loop : tie.MeasureT-loop
+μ-loop bytes m mark stamp rows row-count first row body₀ span₀ strides₀ spans₀ passed₀ block₀ body span strides spans passed block = m + 8 - 8 * block
+
+loop-holds : tie.Need-loop-holds Inv-loop μ-loop
+loop-holds c = c .before .before .before .before .before .pre .1
+
+mul-loop : tie.Need-mul-loop Inv-loop μ-loop
+mul-loop c = omega (arith, c .loop .inv .bound, c .loop .inv .ready .few)
+
+slot-step-requires : tie.Need-slot-step-requires Inv-loop μ-loop
+slot-step-requires c κs = summing-asks _ _ _ _ _ _ _ _ _ _ _ _ _ (c .before .before .before .loop .inv) (c .before .before .before .before .before .before .before .before .before .pre .0) (c .before .before .loop-test .taken)
+
+enum-known-step : tie.Need-enum-known-step Inv-loop μ-loop
+enum-known-step c = search needs
+
+loop-less : tie.Need-loop-less Inv-loop μ-loop
+loop-less c = omega (arith, summing-more _ _ _ _ _ _ _ _ _ _ _ _ _ (c .before .before .before .before .before .before .before .before .before .before .before .loop .inv) _ _ _ _ (c .before .before .before .before .before .before .before .slot-step .ensures) (c .before .step .given .1))
+
+loop-again : tie.Need-loop-again Inv-loop μ-loop
+loop-again c = summing-next _ _ _ _ _ _ _ _ _ _ _ _ _ (c .before .before .before .before .before .before .before .before .before .before .before .loop .inv) _ _ _ _ (c .before .before .before .before .before .before .before .slot-step .ensures) (c .before .step .given .1) (c .before .before .before .before .before .before .before .slot-step .kept .1 .1 .1 .1 .1 .1 .1 .1 .1 .1 .1 .1 .0) (c .before .before .before .before .before .before .before .slot-step .kept .1 .1 .1 .1 .1 .1 .1 .1 .1 .1 .1 .1 .1 .0)
+
+enum-told : tie.Need-enum-told Inv-loop μ-loop
+enum-told c = search needs
+
+same-length : tie.Need-same-length Inv-loop μ-loop
+same-length c = c .before .before .before .before .before .before .slot-step .kept .1 .1 .1 .1 .1 .1 .1 .1 .1 .1 .1 .1 .0 ∙ c .before .before .before .before .before .before .before .before .before .before .loop .inv .bodyLong ∙ sym (c .before .before .before .before .before .before .before .before .before .before .before .before .before .before .before .before .pre .1 .bodyLong)
+
+same-length-2 : tie.Need-same-length-2 Inv-loop μ-loop
+same-length-2 c = c .before .before .before .before .before .before .slot-step .kept .1 .1 .1 .1 .1 .1 .1 .1 .1 .1 .1 .1 .1 .0 ∙ c .before .before .before .before .before .before .before .before .before .before .loop .inv .spanLong ∙ sym (c .before .before .before .before .before .before .before .before .before .before .before .before .before .before .before .before .pre .1 .spanLong)
+
+returns : tie.Need-returns Inv-loop μ-loop
+returns c = part-lacks _ _ _ _ _ _ _ _ (slot-lack _ _ _ _ _ _ _ _ _ _ _ (c .before .before .before .before .before .before .slot-step .ensures) (c .enum-told .given .1))
+
+same-length-3 : tie.Need-same-length-3 Inv-loop μ-loop
+same-length-3 c = c .before .loop .inv .bodyLong ∙ sym (c .before .before .before .before .before .before .before .pre .1 .bodyLong)
+
+same-length-4 : tie.Need-same-length-4 Inv-loop μ-loop
+same-length-4 c = c .before .loop .inv .spanLong ∙ sym (c .before .before .before .before .before .before .before .pre .1 .spanLong)
+
+returns-2 : tie.Need-returns-2 Inv-loop μ-loop
+returns-2 c = part-ends _ _ _ _ _ _ _ _ _ _ _ (c .before .loop .inv) (c .loop-test .left)
+
+pub part-totals-spec : {M : Type 1} → statement M
+part-totals-spec =
+    tie.close
+    (tie.spec
+    Inv-loop
+    μ-loop
+    loop-holds
+    mul-loop
+    slot-step-requires
+    enum-known-step
+    loop-less
+    loop-again
+    enum-told
+    same-length
+    same-length-2
+    returns
+    same-length-3
+    same-length-4
+    returns-2)
