@@ -11,6 +11,7 @@ use crate::batch::span_counts;
 use crate::batch::starts_in;
 use crate::batch::whole_in;
 use crate::listing::put_listing;
+use loc_calls::SpanAt;
 use loc_leaf::Answer;
 use loc_leaf::Kind;
 use loc_lent::calls;
@@ -148,4 +149,26 @@ pub fn call(
     put_back(w, ROWS, 64, &rows);
     put_back(w, CHECKPOINTS, 48, &checkpoints);
     answer
+}
+
+fn span_on_areas(
+    address: u64,
+    slots: &mut [u8],
+    rows: &mut [u8],
+    checkpoints: &mut [u8],
+) -> SpanAt {
+    calls::span_at(slots, rows, checkpoints, address)
+}
+
+// Whose crossing is at an address.
+pub fn span_at(address: u64, w: &[u8; 2192]) -> SpanAt {
+    let mut slots = bytes_of(w, SLOTS);
+    let mut rows = bytes_of(w, ROWS);
+    let mut checkpoints = bytes_of(w, CHECKPOINTS);
+    span_on_areas(
+        address,
+        lent(&mut slots),
+        lent(&mut rows),
+        lent(&mut checkpoints),
+    )
 }

@@ -6,6 +6,7 @@ use crate::areas::ROWS;
 use crate::areas::SLOTS;
 use crate::areas::counted;
 use crate::call::call;
+use crate::call::span_at;
 use crate::print;
 use crate::script::Line;
 use crate::script::found;
@@ -137,6 +138,19 @@ fn torn(text: &[u8], line: Line, kind: Kind, list: &[u64; 1040], n: usize, w: &[
     }
 }
 
+// find: number, record, index and remainder of an address.
+fn find(text: &[u8], line: Line, kind: Kind, address: u64, w: &[u8; 2192]) {
+    let found = span_at(address, w);
+    print::kind(kind);
+    print::words(text, line.words, line.numbers);
+    print::number(address);
+    print::number(found.number);
+    print::number(found.record);
+    print::number(found.index);
+    print::number(found.remainder);
+    print::end();
+}
+
 // Commands that change the areas by hand, then those that make a call. Any other prints its words.
 fn step(text: &[u8], line: Line, kind: Kind, list: &[u64; 1040], n: usize, w: &mut [u8; 2192]) {
     let command = line.command;
@@ -148,6 +162,7 @@ fn step(text: &[u8], line: Line, kind: Kind, list: &[u64; 1040], n: usize, w: &m
         b'm' | b'k' | b'a' => one(text, line, kind, list, n, w),
         b'l' => list_two(kind, list, n, w),
         b't' => torn(text, line, kind, list, n, w),
+        b'f' => find(text, line, kind, list[0], w),
         _ => {
             print::words(text, plus(line.words, 1), line.numbers);
             print::end();

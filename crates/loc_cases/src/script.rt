@@ -62,17 +62,15 @@ pub fn line_at(text: &[u8], from: usize) -> Line {
 }
 
 // A digit more. A number that would not fit 64 bits is 0.
-fn with_digit(n: u64, digit: u8) -> u64 {
-    match digit {
-        b'0'..=b'9' => {
-            if n <= 0x1999_9999_9999_9998 {
-                10 * n + (digit - b'0') as u64
-            } else {
-                0
-            }
-        }
-        _ => 0,
+fn with_digit(n: u64, byte: u8) -> u64 {
+    if !is_digit(byte) {
+        return 0;
     }
+    let digit = (byte % 16) as u64;
+    if (u64::MAX - digit) / 10 < n {
+        return 0;
+    }
+    10 * n + digit
 }
 
 // A line's numbers, from the space before the first: how many. Those past the list's end are left out.

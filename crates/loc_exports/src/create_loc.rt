@@ -5,9 +5,10 @@ ghost use mathlib.Core.Path.{_≡_};
 ghost use Rattle.loc_calls.specs.Areas.{areas};
 ghost use Rattle.loc_calls.specs.Table.{batch, opening, append, truncate, read};
 ghost use Rattle.loc_calls.specs.Calls.{call, create, audit};
+ghost use Rattle.loc_calls.specs.SpanAt.{spanAt};
 ghost use Rattle.loc_calls.specs.Promises.{Stored, Read};
 ghost use Rattle.loc_parse.specs.Import.{appendListing};
-ghost use Rattle.loc_exports.specs.Given.{given};
+ghost use Rattle.loc_exports.specs.Given.{given, givenSpan};
 
 // Creation: 1.
 #[no_mangle]
@@ -216,5 +217,25 @@ pub extern "C" fn create_loc_audit(
 {
     let a = loc_index::create_loc::audit(slots, rows, checkpoints);
     *value = a.value;
+    a.number
+}
+
+// Whose crossing is at an address: 1, 6; 17, 21.
+#[no_mangle]
+pub extern "C" fn create_loc_span_at(
+    slots: &[u8],
+    rows: &[u8],
+    checkpoints: &[u8],
+    address: u64,
+    record: &mut u64,
+    index: &mut u64,
+    remainder: &mut u64,
+) -> u64
+    ensures { λ r. ⌜ givenSpan r (now («record» .exit)) (now (index .exit)) (now (remainder .exit)) ≡ spanAt (areas (now (slots .entry)) (now (rows .entry)) (now (checkpoints .entry))) address ⌝ }
+{
+    let a = loc_index::create_loc::span_at(slots, rows, checkpoints, address);
+    *record = a.record;
+    *index = a.index;
+    *remainder = a.remainder;
     a.number
 }

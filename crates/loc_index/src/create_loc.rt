@@ -5,8 +5,10 @@ ghost use Rattle.loc_leaf.specs.declared.Kind.the-variants.{Paired};
 ghost use Rattle.loc_calls.specs.Areas.{areas};
 ghost use Rattle.loc_calls.specs.Table.{batch, opening, append, truncate, read};
 ghost use Rattle.loc_calls.specs.Calls.{call, create, audit};
+ghost use Rattle.loc_calls.specs.SpanAt.{spanAt};
 ghost use Rattle.loc_calls.specs.Promises.{Stored, Read};
 ghost use Rattle.loc_parse.specs.Import.{appendListing};
+use loc_calls::SpanAt;
 use loc_leaf::Answer;
 use loc_leaf::Kind;
 
@@ -151,4 +153,11 @@ pub fn audit(slots: &[u8], rows: &[u8], checkpoints: &[u8]) -> Answer
     ensures { λ r. ⌜ r ≡ audit Paired (areas (now (slots .entry)) (now (rows .entry)) (now (checkpoints .entry))) .answer ⌝ }
 {
     loc_audit::audit::audit_areas(Kind::Paired, slots, rows, checkpoints)
+}
+
+// Refuses by 1, 6; 17 for any slot; 21. The lowest record whose span range holds the address, the index of the span in it, and the remainder.
+pub fn span_at(slots: &[u8], rows: &[u8], checkpoints: &[u8], address: u64) -> SpanAt
+    ensures { λ r. ⌜ r ≡ spanAt (areas (now (slots .entry)) (now (rows .entry)) (now (checkpoints .entry))) address ⌝ }
+{
+    loc_span_at::windows::span_at(slots, rows, checkpoints, address)
 }

@@ -1,5 +1,6 @@
 // The public calls by kind. Each of those that store is made whole, or as its run at some of its places.
 // Calls with the same arguments stand together.
+use loc_calls::SpanAt;
 use loc_index::create_loc;
 use loc_index::delta_loc;
 use loc_leaf::Answer;
@@ -125,4 +126,9 @@ pub fn audit(kind: Kind, slots: &[u8], rows: &[u8], checkpoints: &[u8]) -> Answe
         Kind::Paired => create_loc::audit(slots, rows, checkpoints),
         Kind::Single => delta_loc::audit(slots, rows, checkpoints),
     }
+}
+
+// Whose crossing is at an address, which the paired kind alone answers.
+pub fn span_at(slots: &[u8], rows: &[u8], checkpoints: &[u8], address: u64) -> SpanAt {
+    create_loc::span_at(slots, rows, checkpoints, address)
 }
