@@ -3,7 +3,7 @@
  *
  * A slice is a pointer and a length in elements; NULL is allowed with length 0. What one call is lent (areas, lists, `answers`,
  * `value`) must not overlap, and `value` must not be NULL. Each call returns a gurwynell_refusal and stores its value, 0 on a
- * refusal; a refusal stores nothing else. */
+ * refusal; a refusal stores nothing else. Of create_loc_span_at all this holds with three values in place of one. */
 #ifndef GURWYNELL_H
 #define GURWYNELL_H
 
@@ -15,7 +15,7 @@ extern "C" {
 #endif
 
 /* What a call returns. Any call gives 1; create no other; open 2 to 5; the others 6, and append 7 to 13, truncate 14,
- * read 15 to 17, append_listing 18 to 20 and then 8 to 13. */
+ * read 15 to 17, append_listing 18 to 20 and then 8 to 13, span_at 17 and then 21. */
 enum gurwynell_refusal {
     GURWYNELL_ACCEPTED = 0,
     GURWYNELL_AREA_TOO_SMALL = 1,          /* an area under 16 bytes */
@@ -37,7 +37,8 @@ enum gurwynell_refusal {
     GURWYNELL_ROW_MISSING = 17,            /* a slot that is looked at needs a row and has none */
     GURWYNELL_LISTING_MALFORMED = 18,      /* no names line, a line not of the form, or a 1,025th value line */
     GURWYNELL_LISTING_NUMBER = 19,         /* a record number not one above the line before, or not count + 1 on the first */
-    GURWYNELL_LISTING_SPAN_LEN = 20        /* a span length that is not 8 times the span count */
+    GURWYNELL_LISTING_SPAN_LEN = 20,       /* a span length that is not 8 times the span count */
+    GURWYNELL_ADDRESS_NOT_HELD = 21        /* no record's span range holds the address */
 };
 
 /* Where the words of an answer stand, and how many there are for each wanted number. All are 0 where nothing is found. */
@@ -84,6 +85,9 @@ uint64_t create_loc_truncate(GURWYNELL_AREAS, uint64_t count, uint64_t *value);
 uint64_t create_loc_truncate_run(GURWYNELL_AREAS, uint64_t count, uint64_t places, uint64_t *value);
 uint64_t create_loc_read(GURWYNELL_LENT_AREAS, GURWYNELL_READING, uint64_t *value);
 uint64_t create_loc_audit(GURWYNELL_LENT_AREAS, uint64_t *value);
+/* Whose crossing is at an address: the lowest record whose span range holds it, the index of the span in that record from 0 on, and
+ * the remainder 0 to 7, so that address = span start + 8 * index + remainder. The whole index is read. */
+uint64_t create_loc_span_at(GURWYNELL_LENT_AREAS, uint64_t address, uint64_t *record, uint64_t *index, uint64_t *remainder);
 
 uint64_t delta_loc_create(GURWYNELL_AREAS, uint64_t *value);
 uint64_t delta_loc_open(GURWYNELL_AREAS, uint64_t *value);

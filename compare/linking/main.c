@@ -1,5 +1,6 @@
 /* README's example, compiled as C and as C++ against the archive: two records are created, appended, opened, read and audited.
- * Prints what differs from document 01's listing. Then a third record from a listing; lists of length 0 are NULL. */
+ * Prints what differs from document 01's listing. Then a span by its address and a third record from a listing; lists of length 0
+ * are NULL. */
 #include "gurwynell.h"
 #include <stdio.h>
 
@@ -33,6 +34,14 @@ int main(void)
     expect("span count", answers[GURWYNELL_PAIRED_SPAN_COUNT], 1);
     expect("audit", create_loc_audit(slots, 64, rows, 64, checkpoints, 64, &value), GURWYNELL_ACCEPTED);
     expect("soundness", value, 1);
+
+    uint64_t record = 9, index = 9, remainder = 9;
+    expect("span at 37", create_loc_span_at(slots, 64, rows, 64, checkpoints, 64, 37, &record, &index, &remainder), GURWYNELL_ACCEPTED);
+    expect("its record", record, 1);
+    expect("its index", index, 2);
+    expect("its remainder", remainder, 5);
+    expect("span at 48", create_loc_span_at(slots, 64, rows, 64, checkpoints, 64, 48, &record, &index, &remainder), GURWYNELL_ADDRESS_NOT_HELD);
+    expect("a refusal's three", record + index + remainder, 0);
 
     const char listing[] = "record body_start body_len span_start span_len spans\n3 2104 8 48 16 2\n";
     const uint8_t *text = (const uint8_t *)listing;

@@ -73,7 +73,7 @@ fn some_pieces(kind: Kind, areas: &mut Areas, pick: &mut Pick) -> &'static str {
     "pieces published or withdrawn"
 }
 
-fn slot(areas: &mut Areas, pick: &mut Pick) -> &'static str {
+pub fn slot(areas: &mut Areas, pick: &mut Pick) -> &'static str {
     let n = (counted(&areas[SLOTS]) as usize - 16) / 2;
     if n > 0 {
         let at = 16 + 2 * pick.size(n);
@@ -114,7 +114,7 @@ fn row_number(kind: Kind, areas: &mut Areas, pick: &mut Pick) -> &'static str {
     "a row's number"
 }
 
-fn row_value(kind: Kind, areas: &mut Areas, pick: &mut Pick) -> &'static str {
+pub fn row_value(kind: Kind, areas: &mut Areas, pick: &mut Pick) -> &'static str {
     let n = pieces(kind, areas, ROWS);
     if n > 0 {
         let width = kind.widths()[ROWS];
@@ -131,7 +131,7 @@ pub fn value(pick: &mut Pick) -> u32 {
     pick.of(&[0, 1, 5, 255, 256, 257, 300, 65_535, 65_536, 65_537, u32::MAX, u32::MAX - 1, any, any >> 12])
 }
 
-fn checkpoint(kind: Kind, areas: &mut Areas, pick: &mut Pick) -> &'static str {
+pub fn checkpoint(kind: Kind, areas: &mut Areas, pick: &mut Pick) -> &'static str {
     let n = pieces(kind, areas, CHECKPOINTS);
     if n > 0 {
         let width = kind.widths()[CHECKPOINTS];

@@ -4,7 +4,7 @@ use crate::areas::{Areas, Kind};
 use original::create_loc::{CreateLoc, CreateLocAppend};
 use original::delta_loc::DeltaLoc;
 use original::error::StoreError;
-use original::io_handle::{IoHandle, Write};
+use original::io_handle::{cut_after, writes, IoHandle, Write};
 use original::Fk;
 use std::path::{Path, PathBuf};
 
@@ -67,6 +67,12 @@ impl Judge {
             Kind::Single => DeltaLoc::open(dir, STEM).map(Judge::Single),
         }
         .map_err(refusal)
+    }
+
+    /// The original where its opening neither refuses nor writes anything: where the port does not give 6.
+    pub fn settled(kind: Kind, dir: &Path) -> Option<Judge> {
+        cut_after(u64::MAX);
+        Judge::open(kind, dir).ok().filter(|_| writes().is_empty())
     }
 
     pub fn count(&self) -> u64 {

@@ -10,6 +10,7 @@ pub mod listing;
 pub mod named;
 pub mod pick;
 pub mod port;
+pub mod span_at;
 pub mod sweep;
 pub mod tally;
 pub mod tape;

@@ -145,7 +145,7 @@ fn go(pick: &mut Pick, tally: &mut Tally, steps: &mut Vec<String>) -> Outcome<()
 }
 
 /// An index of some size, with room for a listing or for little; at times damaged, or with an area under 16 bytes.
-fn index(style: &Style, pick: &mut Pick, steps: &mut Vec<String>) -> Areas {
+pub fn index(style: &Style, pick: &mut Pick, steps: &mut Vec<String>) -> Areas {
     let mut areas = composed(Kind::Paired, style, pick);
     if pick.one_in(2) {
         for (area, width) in areas.iter_mut().zip(Kind::Paired.widths()) {

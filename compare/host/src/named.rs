@@ -7,7 +7,7 @@ use crate::tape::Tape;
 use crate::trial::{Call, Outcome, Trial};
 
 /// Records with slot 1, 1; rows and checkpoints by hand.
-fn areas(kind: Kind, records: usize, checkpoints: usize, rows: &[Vec<u8>], published: usize) -> Areas {
+pub fn areas(kind: Kind, records: usize, checkpoints: usize, rows: &[Vec<u8>], published: usize) -> Areas {
     let w = kind.widths();
     let mut areas = empty([16 + 2 * records, 16 + w[ROWS] * (rows.len() + 1), 16 + w[CHECKPOINTS] * checkpoints]);
     areas[SLOTS][16..].fill(1);
@@ -21,7 +21,7 @@ fn areas(kind: Kind, records: usize, checkpoints: usize, rows: &[Vec<u8>], publi
     areas
 }
 
-fn slot(mut areas: Areas, number: usize, bytes: [u8; 2]) -> Areas {
+pub fn slot(mut areas: Areas, number: usize, bytes: [u8; 2]) -> Areas {
     put(&mut areas[SLOTS], 16 + 2 * (number - 1), &bytes);
     areas
 }

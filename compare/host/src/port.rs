@@ -41,6 +41,10 @@ mod c {
             text: *const u8, text_n: usize,
             places: u64, value: *mut u64,
         ) -> u64;
+        pub fn create_loc_span_at(
+            s: *const u8, sn: usize, r: *const u8, rn: usize, c: *const u8, cn: usize,
+            address: u64, record: *mut u64, index: *mut u64, remainder: *mut u64,
+        ) -> u64;
         pub fn delta_loc_append(
             s: *mut u8, sn: usize, r: *mut u8, rn: usize, c: *mut u8, cn: usize,
             starts: *const u64, starts_n: usize, lens: *const u64, lens_n: usize,
@@ -56,6 +60,9 @@ mod c {
 
 /// Number and value.
 pub type Answer = (u64, u64);
+
+/// Number, and the record, the index of the span in it and the remainder.
+pub type Crossing = (u64, [u64; 3]);
 
 /// What the value holds before a call: a call that does not store it is seen.
 const UNSET: u64 = 0xdead_beef_dead_beef;
@@ -279,4 +286,25 @@ pub fn audit(kind: Kind, areas: &Areas) -> Answer {
     };
     let number = unsafe { call(s.as_ptr(), s.len(), r.as_ptr(), r.len(), k.as_ptr(), k.len(), &mut value) };
     (number, value)
+}
+
+/// Whose crossing is at an address of a paired index.
+pub fn span_at(areas: &Areas, address: u64) -> Crossing {
+    let [s, r, k] = areas;
+    let [mut record, mut index, mut remainder] = [UNSET; 3];
+    let number = unsafe {
+        c::create_loc_span_at(
+            s.as_ptr(),
+            s.len(),
+            r.as_ptr(),
+            r.len(),
+            k.as_ptr(),
+            k.len(),
+            address,
+            &mut record,
+            &mut index,
+            &mut remainder,
+        )
+    };
+    (number, [record, index, remainder])
 }

@@ -22,7 +22,7 @@ pub fn run(folder: &Folder, tally: &mut Tally) -> Result<u64, (String, Vec<Strin
     Ok(worlds)
 }
 
-type World = (String, Areas, Vec<u64>);
+pub type World = (String, Areas, Vec<u64>);
 
 fn open_and_read(trial: &mut Trial, wanted: &[u64]) -> Outcome<()> {
     let areas = trial.areas.clone();
@@ -122,7 +122,7 @@ fn windows(kind: Kind) -> Vec<World> {
 }
 
 /// Counts around blocks of eight, with one slot that lacks its row at every place: what is looked at, and what is not.
-fn blocks(kind: Kind) -> Vec<World> {
+pub fn blocks(kind: Kind) -> Vec<World> {
     let mut list = Vec::new();
     for count in [1usize, 7, 8, 9, 15, 16, 17, 24] {
         for hole in 0..=count {

@@ -1,6 +1,7 @@
 //! How much was compared: calls of each kind, and how often each number came.
 //! A run in which some number never came is reported as incomplete.
 use crate::areas::Kind;
+use crate::port::Crossing;
 
 #[derive(Clone, Copy, Debug, PartialEq, Eq)]
 pub enum What {
@@ -40,14 +41,26 @@ pub struct Tally {
     pub texts: u64,
     /// How often each number came from a listing's calls.
     listings: [u64; 21],
+    /// How often each number came from a search for an address, and how often an index and a remainder that are both not 0.
+    addresses: [u64; 22],
+    inner: u64,
 }
 
 /// What a listing's calls can give: all but the lists that differ, and what other calls refuse.
 const OF_A_LISTING: [usize; 12] = [0, 1, 6, 8, 9, 10, 11, 12, 13, 18, 19, 20];
 
+/// What a search for an address can give.
+const OF_AN_ADDRESS: [usize; 5] = [0, 1, 6, 17, 21];
+
 /// Refusals that document 01 adds: the port's alone, so there is nothing to compare but that they come where it says.
 pub fn added(kind: Kind, number: u64) -> bool {
     matches!(number, 1 | 6 | 13 | 15 | 16) || kind == Kind::Paired && number == 7
+}
+
+/// How often each of these numbers came.
+fn each(numbers: &[usize], counts: &[u64]) -> String {
+    let list: Vec<String> = numbers.iter().map(|&n| format!("{n}: {}", counts[n])).collect();
+    list.join(", ")
 }
 
 impl Tally {
@@ -60,6 +73,11 @@ impl Tally {
 
     pub fn note_listing(&mut self, number: u64) {
         self.listings[number as usize] += 1;
+    }
+
+    pub fn note_address(&mut self, (number, [_, index, remainder]): Crossing) {
+        self.addresses[number as usize] += 1;
+        self.inner += u64::from(index != 0 && remainder != 0);
     }
 
     pub fn compared(&self) -> u64 {
@@ -92,6 +110,10 @@ impl Tally {
             }
         }
         list.extend(OF_A_LISTING.iter().filter(|&&n| self.listings[n] == 0).map(|n| format!("listing {n}")));
+        list.extend(OF_AN_ADDRESS.iter().filter(|&&n| self.addresses[n] == 0).map(|n| format!("address {n}")));
+        if self.inner == 0 {
+            list.push("address with an index and a remainder".into());
+        }
         list
     }
 
@@ -110,12 +132,21 @@ impl Tally {
 
     /// The listings, which the original does not read back.
     pub fn listings(&self) -> String {
-        let list: Vec<String> = OF_A_LISTING.iter().map(|&n| format!("{n}: {}", self.listings[n])).collect();
         format!(
             "listings read back: {} calls of {} texts agree with the rules and with append ({})",
             self.listings.iter().sum::<u64>(),
             self.texts,
-            list.join(", ")
+            each(&OF_A_LISTING, &self.listings)
+        )
+    }
+
+    /// The addresses, which the original does not look for.
+    pub fn addresses(&self) -> String {
+        format!(
+            "span addresses: {} calls agree with the original's readings ({}), {} of them with an index and a remainder not 0",
+            self.addresses.iter().sum::<u64>(),
+            each(&OF_AN_ADDRESS, &self.addresses),
+            self.inner
         )
     }
 

@@ -5,7 +5,7 @@ use crate::judge::{Batch, Folder, Judge, Refusal};
 use crate::port;
 use crate::tally::{Tally, What};
 use crate::tape::{Tape, ALL};
-use original::io_handle::{cut_after, writes};
+use original::io_handle::cut_after;
 
 #[derive(Clone, Debug)]
 pub enum Call {
@@ -254,12 +254,8 @@ impl<'a> Trial<'a> {
     /// A call before any opening: 6 just where the original's opening refuses or writes something.
     pub fn cold(&mut self, call: &Call) -> Outcome<()> {
         self.steps.push(format!("without an opening: {}", call.text()));
-        self.judge = None;
-        cut_after(u64::MAX);
-        let opened = Judge::open(self.kind, self.folder.dir());
-        let settled = opened.is_ok() && writes().is_empty();
-        if settled {
-            self.judge = opened.ok();
+        self.judge = Judge::settled(self.kind, self.folder.dir());
+        if self.judge.is_some() {
             self.call(call)?;
             return Ok(());
         }

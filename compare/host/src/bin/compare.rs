@@ -2,11 +2,11 @@
 //! compare [--seed N] [--histories N | --seconds N] [--one SEED]
 use host::judge::Folder;
 use host::tally::Tally;
-use host::{history, listing, named, sweep};
+use host::{history, listing, named, span_at, sweep};
 use std::time::{Duration, Instant};
 
-/// Once in so many histories the listings of its seed are read back too.
-const LISTINGS_ONE_IN: u64 = 25;
+/// Once in so many histories the listings of its seed are read back too, and its addresses are looked for.
+const OTHERS_ONE_IN: u64 = 25;
 
 fn main() {
     let mut seed = 1u64;
@@ -30,6 +30,8 @@ fn main() {
     let named = named::run(&folder, &mut tally, false, &mut |_, _| {})
         .unwrap_or_else(|(message, steps)| differs(&folder, None, &message, &steps));
     let texts = listing::named(&mut tally).unwrap_or_else(|(message, steps)| differs(&folder, None, &message, &steps));
+    let addresses =
+        span_at::named(&folder, &mut tally).unwrap_or_else(|(message, steps)| differs(&folder, None, &message, &steps));
     let worlds = match one {
         Some(_) => 0,
         None => {
@@ -48,12 +50,13 @@ fn main() {
         }
         // seeds of different runs do not meet
         let this = one.unwrap_or(seed.wrapping_mul(1_000_000_007).wrapping_add(i));
-        let with_listings = one.is_some() || i % LISTINGS_ONE_IN == 0;
+        let with_others = one.is_some() || i % OTHERS_ONE_IN == 0;
         i += 1;
         let ran = std::panic::catch_unwind(std::panic::AssertUnwindSafe(|| {
             history::run(this, &folder, &mut tally)?;
-            if with_listings {
+            if with_others {
                 listing::run(this, &mut tally)?;
+                span_at::run(this, &folder, &mut tally)?;
             }
             Ok(())
         }));
@@ -63,19 +66,20 @@ fn main() {
             Err(_) => differs(&folder, Some(this), "one side panicked", &[]),
         }
         if one.is_some() {
-            println!("history and listings of seed {this}: no difference");
+            println!("history, listings and addresses of seed {this}: no difference");
             return;
         }
     }
     print!("{}", tally.numbers());
     println!("{}", tally.listings());
+    println!("{}", tally.addresses());
     let unseen = tally.unseen();
     if !unseen.is_empty() {
         println!("comparison with the original: never met: {}", unseen.join(", "));
         drop(folder);
         std::process::exit(1);
     }
-    let named = named + texts;
+    let named = named + texts + addresses;
     println!("{}; {named} named cases and {worlds} small worlds; {} s", tally.summary(), begun.elapsed().as_secs());
 }
 

@@ -1,7 +1,7 @@
 //! The tables in Markdown. Times in microseconds, ratios of the times that stand beside them.
-//! Nothing is worked out here but ratios, bytes a second, and nanoseconds a row where there are 9,000 rows or more.
+//! Nothing is worked out here but ratios, bytes a second, nanoseconds a record, and nanoseconds a row where there are 9,000 rows or more.
 use crate::measure::Both;
-use crate::tables::{Line, Listed, Run, Sized, Stored, LISTING_LINES, STORING_RECORDS};
+use crate::tables::{Line, Listed, Run, Searched, Sized, Stored, LISTING_LINES, STORING_RECORDS};
 
 /// From here on what checks do beside the rows is not seen in their time by row.
 pub const MANY_ROWS: usize = 9_000;
@@ -76,6 +76,9 @@ pub fn print(run: &Run) {
     }
     if !run.listing.is_empty() {
         listing(&run.listing);
+    }
+    if !run.span_at.is_empty() {
+        span_at(&run.span_at);
     }
     if !run.size.is_empty() {
         size(&run.size);
@@ -170,6 +173,45 @@ fn listing(lines: &[Listed]) {
             us(t.files)
         );
     }
+}
+
+impl Searched {
+    /// The longest of the three calls.
+    pub fn longest(&self) -> f64 {
+        self.times.call.into_iter().fold(0.0, f64::max)
+    }
+
+    pub fn against_readings(&self) -> f64 {
+        over(self.longest(), self.times.readings)
+    }
+
+    pub fn against_together(&self) -> f64 {
+        over(self.longest(), self.times.together)
+    }
+}
+
+fn span_at(lines: &[Searched]) {
+    println!("\n## Whose crossing is at an address, paired index\n");
+    head("| records | rows | published rows | call: first, middle, last | ns a record | readings | call / readings | readings together | call / together | original by halves: first, middle, last |");
+    for line in lines {
+        let t = &line.times;
+        println!(
+            "| {} | {} | {} | {} | {:.2} | {} | {} | {} | {} | {} |",
+            line.records,
+            line.density,
+            line.rows,
+            t.call.map(us).join(", "),
+            line.longest() * 1e9 / line.records as f64,
+            us(t.readings),
+            ratio(line.against_readings()),
+            us(t.together),
+            ratio(line.against_together()),
+            t.halves.map(us).join(", ")
+        );
+    }
+    println!("\n*call* is `span_at` for an address in the first record, in the one at two fifths of the count, and in the last. *ns a record* and both ratios are of the longest of");
+    println!("the three. The call reads the whole index whatever the address is, since 17 is asked of every slot. A search by halves over the original's readings looks at a few windows");
+    println!("only, so on large indexes it is faster. Such a search does not see a row that is missing elsewhere, and where checkpoints are wrong it may miss the lowest record.");
 }
 
 fn both((port, files): Both) -> String {

@@ -1,4 +1,4 @@
-//! What is measured: a reading, an append with the truncation that takes it back, an opening, a listing read back.
+//! What is measured: a reading, an append with the truncation that takes it back, an opening, a listing read back, a span address looked for.
 //! Before a reading is timed the answers of port and original are compared.
 use crate::index::{batch, Index};
 use crate::turns::{group, over_calls, over_lists, spent, Setting, Side};
@@ -10,6 +10,7 @@ use host::pick::Pick;
 use host::port;
 use original::io_handle::cut_after;
 use original::Fk;
+use std::cell::RefCell;
 use std::hint::black_box;
 
 /// Seconds of one reading. `checks` is a call that is refused with 15 just after numbers 1 and 6; `files` the original's whole call;
@@ -153,6 +154,75 @@ pub fn listing(index: &mut Index, n: usize, rows_one_in: u64, setting: &Setting)
     });
     let [call, rust, lists, files] = best;
     Listing { bytes: text.len(), call, rust, lists, files }
+}
+
+/// Seconds for a span address in the first record, a middle one and the last: the port's call, and halves over the original's readings.
+/// `readings` are the port's of every window's last record, in a call for each; `together` the same in calls of up to 1,024 numbers.
+#[derive(Clone, Copy)]
+pub struct Search {
+    pub call: [f64; 3],
+    pub halves: [f64; 3],
+    pub readings: f64,
+    pub together: f64,
+}
+
+/// What a user of the original would write: halves over the record numbers, with a reading of one record at each step.
+fn by_halves(judge: &Judge, address: u64) -> Option<[u64; 3]> {
+    let Judge::Paired(loc) = judge else { return None };
+    let (mut low, mut high) = (1, loc.count());
+    while low <= high {
+        let id = low + (high - low) / 2;
+        let (start, len) = loc.range_batch(&[Fk::new(id)]).ok()?[0]?.spent;
+        if address < start {
+            high = id - 1;
+        } else if address - start >= len {
+            low = id + 1;
+        } else {
+            return Some([id, (address - start) / 8, (address - start) % 8]);
+        }
+    }
+    None
+}
+
+/// The middle record is one that halves do not soon come upon. Before the times are taken the answers are compared.
+pub fn span_at(index: &Index, setting: &Setting) -> Search {
+    let Index { kind, records, areas, judge, .. } = index;
+    let addresses = [1, records * 2 / 5, *records].map(|id| {
+        let (_, words) = judge.read(&[id]).expect("every row is there");
+        let address = words[3] + 8 * (words[5] / 2) + 3;
+        assert_eq!(port::span_at(areas, address), (0, [id, words[5] / 2, 3]));
+        assert_eq!(by_halves(judge, address), Some([id, words[5] / 2, 3]));
+        address
+    });
+    let lasts: Vec<u64> = (1..=*records).filter(|id| id % 1024 == 0 || id == records).collect();
+    let buffer = RefCell::new(vec![0; kind.words() * lasts.len().min(1024)]);
+    let readings = |numbers: usize| {
+        for list in lasts.chunks(numbers) {
+            let answer = port::read(*kind, areas, black_box(list), &mut buffer.borrow_mut());
+            assert_eq!(answer, (0, list.len() as u64));
+        }
+    };
+    let call = |i: usize| {
+        black_box(port::span_at(areas, black_box(addresses[i])));
+    };
+    let halves = |i: usize| {
+        black_box(by_halves(judge, black_box(addresses[i])));
+    };
+    let best = over_calls(
+        setting,
+        &mut [
+            &mut || call(0),
+            &mut || call(1),
+            &mut || call(2),
+            &mut || halves(0),
+            &mut || halves(1),
+            &mut || halves(2),
+            &mut || readings(1),
+            &mut || readings(1024),
+        ],
+    );
+    let [call, halves] = [0, 3].map(|from| [best[from], best[from + 1], best[from + 2]]);
+    Search { call, halves, readings: best[6], together: best[7] }
 }
 
 pub fn opening(index: &mut Index, folder: &Folder, setting: &Setting) -> Both {

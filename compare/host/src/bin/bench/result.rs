@@ -1,7 +1,7 @@
 //! What the tables say, worked out from the same lines, as the document's section Result.
 //! Every figure and every "all of them" in its text is computed here.
 use crate::markdown::{head, number, over, ratio, us, MANY_ROWS};
-use crate::tables::{Line, Listed, Run, GROWTH, LISTING_LINES};
+use crate::tables::{Line, Listed, Run, Searched, GROWTH, LISTING_LINES};
 use crate::wanted::{Spread, WORKLOADS};
 use std::cmp::Ordering;
 
@@ -57,6 +57,9 @@ pub fn print(run: &Run) {
     }
     if !run.listing.is_empty() {
         listing(&run.listing);
+    }
+    if !run.span_at.is_empty() {
+        span_at(&run.span_at);
     }
     if !run.numbers.is_empty() {
         numbers(&run.numbers);
@@ -300,6 +303,24 @@ fn listing(lines: &[Listed]) {
         "it takes {} times as long as the port's append of the lists alone.",
         range(&Figures::of(lines.iter().map(Listed::against_lists)))
     );
+}
+
+fn span_at(lines: &[Searched]) {
+    let halves = |records: u64| {
+        let same = lines.iter().filter(|line| line.records == records);
+        range(&Figures::of(same.flat_map(|line| [0, 1, 2].map(|i| over(line.times.halves[i], line.times.call[i])))))
+    };
+    println!(
+        "\n**Whose crossing is at an address**: the call takes {} of the time of the port's readings of every window's last record, each of them a call,",
+        range(&Figures::of(lines.iter().map(Searched::against_readings)))
+    );
+    println!(
+        "and {} where these are read together. A search by halves over the original's readings, which does not look at every slot, takes {} of the call's",
+        range(&Figures::of(lines.iter().map(Searched::against_together))),
+        halves(lines[0].records)
+    );
+    let most = lines[lines.len() - 1].records;
+    println!("time on {} records and {} on {}.", number(lines[0].records), halves(most), number(most));
 }
 
 fn numbers(lines: &[Line]) {

@@ -1,7 +1,7 @@
 //! The tables' measurements: which indexes and which calls.
 //! Every table has its own; what is in two tables was measured for each.
 use crate::index::{build, Index, DENSITIES, KINDS};
-use crate::measure::{listing, opening, reading, storing, Both, Listing, Reading};
+use crate::measure::{listing, opening, reading, span_at, storing, Both, Listing, Reading, Search};
 use crate::turns::{spent, Setting};
 use crate::wanted::{Spread, WORKLOADS};
 use host::areas::Kind;
@@ -36,6 +36,14 @@ pub struct Listed {
     pub times: Listing,
 }
 
+/// Span addresses looked for in one index.
+pub struct Searched {
+    pub records: u64,
+    pub density: &'static str,
+    pub rows: usize,
+    pub times: Search,
+}
+
 /// All calls on an index of one size.
 pub struct Sized {
     pub line: Line,
@@ -50,6 +58,7 @@ pub struct Run {
     pub growth: Vec<Line>,
     pub storing: Vec<Stored>,
     pub listing: Vec<Listed>,
+    pub span_at: Vec<Searched>,
     pub size: Vec<Sized>,
     pub numbers: Vec<Line>,
     pub clock: f64,
@@ -75,10 +84,12 @@ fn workloads(index: &Index, density: &'static str, setting: &Setting) -> Vec<Lin
     fitting.map(|(n, spread)| line(index, density, n, spread, setting)).collect()
 }
 
+const SIZES: [u64; 3] = [1_000, 100_000, 1_000_000];
+
 /// Reading at three sizes: every workload, without rows, with 1 % and with 10 %.
 pub fn reading_table(run: &mut Run, folder: &Folder, setting: &Setting) {
     for kind in KINDS {
-        for records in [1_000, 100_000, 1_000_000] {
+        for records in SIZES {
             for (density, one_in) in DENSITIES {
                 run.reading.extend(workloads(&build(kind, folder, records, one_in), density, setting));
             }
@@ -124,6 +135,17 @@ pub fn listing_table(run: &mut Run, folder: &Folder, setting: &Setting) {
         let mut index = build(Kind::Paired, folder, 0, one_in);
         let times = listing(&mut index, LISTING_LINES, one_in, setting);
         run.listing.push(Listed { density, rows: index.row_count(), times });
+    }
+}
+
+/// Span addresses at the same sizes.
+pub fn span_at_table(run: &mut Run, folder: &Folder, setting: &Setting) {
+    for records in SIZES {
+        for (density, one_in) in DENSITIES {
+            let index = build(Kind::Paired, folder, records, one_in);
+            let times = span_at(&index, setting);
+            run.span_at.push(Searched { records, density, rows: index.row_count(), times });
+        }
     }
 }
 
