@@ -101,7 +101,9 @@ def refusal(text):
         _, start, length, span, span_len, spans = record
         if spans == 0:
             return 8, []
-        if length == 0 or length % 8:
+        if length == 0:
+            return 22, []
+        if length % 8:
             return 9, []
         if length // 8 >= 2**32:
             return 10, []
@@ -143,7 +145,8 @@ two = listing([(40, 3), (2048, 1)])
 imported("face_import_zero", two.replace("2 56", "2 056"))
 imported("face_import_wide", two.replace("2 56", f"2 {2**64}"))
 imported("face_import_unended", two[:-1])
-# 19 before 20, 20 before append's 11, and append's 11
+# 19 before 20, 20 before append's 11, append's 11, and an empty body, which is 22 before 11
 imported("face_import_number", two.replace("2 56 2048 40 8 1", "3 56 2048 40 16 1"))
 imported("face_import_length", two.replace("2 56 2048 40 8 1", "2 64 2048 40 16 1"))
 imported("face_import_break", two.replace("2 56", "2 64"))
+imported("face_import_blank", two.replace("1 16 40", "1 16 0"))

@@ -14,8 +14,8 @@
 extern "C" {
 #endif
 
-/* What a call returns. Any call gives 1; create no other; open 2 to 5; the others 6, and append 7 to 13, truncate 14,
- * read 15 to 17, append_listing 18 to 20 and then 8 to 13, span_at 17 and then 21. */
+/* What a call returns. Any call gives 1; create no other; open 2 to 5; the others 6, and append 7 to 13 and 22, truncate
+ * 14, read 15 to 17, append_listing 18 to 20 and then 8 to 13 and 22, span_at 17 and then 21. */
 enum gurwynell_refusal {
     GURWYNELL_ACCEPTED = 0,
     GURWYNELL_AREA_TOO_SMALL = 1,          /* an area under 16 bytes */
@@ -26,7 +26,7 @@ enum gurwynell_refusal {
     GURWYNELL_NOT_OPENED = 6,              /* opening would refuse or change a stored length */
     GURWYNELL_LISTS_DIFFER = 7,            /* batch lists differ in length */
     GURWYNELL_NO_SPANS = 8,                /* span count 0 (paired) */
-    GURWYNELL_LENGTH_NOT_PADDED = 9,       /* length 0 or no multiple of 8 */
+    GURWYNELL_LENGTH_NOT_PADDED = 9,       /* length no multiple of 8 */
     GURWYNELL_TOO_MANY_STRIDES = 10,       /* more than 2^32 - 1 strides */
     GURWYNELL_BODY_NOT_CHAINED = 11,       /* next body start is not start + length, saturated */
     GURWYNELL_SPANS_NOT_CHAINED = 12,      /* the same for spans (paired) */
@@ -38,7 +38,8 @@ enum gurwynell_refusal {
     GURWYNELL_LISTING_MALFORMED = 18,      /* no names line, a line not of the form, or a 1,025th value line */
     GURWYNELL_LISTING_NUMBER = 19,         /* a record number not one above the line before, or not count + 1 on the first */
     GURWYNELL_LISTING_SPAN_LEN = 20,       /* a span length that is not 8 times the span count */
-    GURWYNELL_ADDRESS_NOT_HELD = 21        /* no record's span range holds the address */
+    GURWYNELL_ADDRESS_NOT_HELD = 21,       /* no record's span range holds the address */
+    GURWYNELL_BODY_EMPTY = 22              /* length 0 */
 };
 
 /* Where the words of an answer stand, and how many there are for each wanted number. All are 0 where nothing is found. */

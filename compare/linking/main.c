@@ -1,6 +1,6 @@
 /* README's example, compiled as C and as C++ against the archive: two records are created, appended, opened, read and audited.
- * Prints what differs from document 01's listing. Then a span by its address and a third record from a listing; lists of length 0
- * are NULL. */
+ * Prints what differs from document 01's listing. Then a span by its address, a third record from a listing, and bodies that
+ * are refused; lists of length 0 are NULL. */
 #include "gurwynell.h"
 #include <stdio.h>
 
@@ -50,6 +50,9 @@ int main(void)
     expect("the same again", create_loc_append_listing(slots, 64, rows, 64, checkpoints, 64, text, sizeof listing - 1, &value), GURWYNELL_LISTING_NUMBER);
     expect("no text", create_loc_append_listing_run(slots, 64, rows, 64, checkpoints, 64, NULL, 0, 4, &value), GURWYNELL_LISTING_MALFORMED);
 
+    const uint64_t after[] = {2112}, none[] = {0}, ragged[] = {12}, span_after[] = {64};
+    expect("an empty body", create_loc_append(slots, 64, rows, 64, checkpoints, 64, after, 1, none, 1, span_after, 1, spans, 1, &value), GURWYNELL_BODY_EMPTY);
+    expect("a ragged body", create_loc_append(slots, 64, rows, 64, checkpoints, 64, after, 1, ragged, 1, span_after, 1, spans, 1, &value), GURWYNELL_LENGTH_NOT_PADDED);
     expect("an empty batch", create_loc_append(slots, 64, rows, 64, checkpoints, 64, NULL, 0, NULL, 0, NULL, 0, NULL, 0, &value), GURWYNELL_ACCEPTED);
     expect("an empty reading", delta_loc_read(NULL, 0, NULL, 0, NULL, 0, NULL, 0, NULL, 0, &value), GURWYNELL_AREA_TOO_SMALL);
     expect("a refusal's value", value, 0);

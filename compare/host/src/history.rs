@@ -261,7 +261,7 @@ fn wrong(kind: Kind, b: &mut Batch, pick: &mut Pick) {
     match pick.below(8) {
         0 if kind == Kind::Paired && i < b.spans.len() => b.spans[i] = 0,
         1 => b.lens[i] = 0,
-        2 => b.lens[i] += pick.of(&[1, 2, 4, 7]),
+        2 => b.lens[i] = pick.of(&[0, b.lens[i]]) + pick.of(&[1, 2, 4, 7]),
         3 => b.lens[i] = pick.of(&[1 << 35, (1 << 35) + 8, u64::MAX, u64::MAX - 7, 1 << 63, (1 << 35) - 8]),
         4 => b.starts[i] = b.starts[i].wrapping_add(pick.of(&[1, 8, u64::MAX])),
         5 if kind == Kind::Paired && i < b.span_starts.len() => {

@@ -1,5 +1,5 @@
 //! The original on its files, in a folder of a memory file system.
-//! Its refusals are turned into document 01's numbers by their messages.
+//! Its refusals are turned into the table's numbers by their messages.
 use crate::areas::{Areas, Kind};
 use original::create_loc::{CreateLoc, CreateLocAppend};
 use original::delta_loc::DeltaLoc;
@@ -17,7 +17,7 @@ pub struct Batch {
     pub spans: Vec<u32>,
 }
 
-/// A refusal of the original: the number, or what it said where document 01 has none for it.
+/// A refusal of the original: the number, or what it said where the table has none for it.
 #[derive(Clone, Debug, PartialEq, Eq)]
 pub enum Refusal {
     Number(u64),
@@ -43,6 +43,15 @@ fn refusal(error: StoreError) -> Refusal {
         "invariant: create.loc overflow missing" | "invariant: seqsigwit.loc overflow missing" => 17,
         other => return Refusal::Other(other.to_string()),
     })
+}
+
+/// An append's: one message is 22 for an empty body and 9 for a ragged one, by the first length that is either.
+fn append_refusal(error: StoreError, lens: &[u64]) -> Refusal {
+    let first = lens.iter().find(|&&len| len == 0 || len % 8 != 0);
+    match refusal(error) {
+        Refusal::Number(9) if first == Some(&0) => Refusal::Number(22),
+        other => other,
+    }
 }
 
 pub enum Judge {
@@ -114,7 +123,7 @@ impl Judge {
             }
             Judge::Single(loc) => loc.append(&batch.starts, &batch.lens),
         }
-        .map_err(refusal)?;
+        .map_err(|error| append_refusal(error, &batch.lens))?;
         Ok(self.count())
     }
 

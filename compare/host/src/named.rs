@@ -1,7 +1,8 @@
-//! Cases that document 01 names with their values, on both sides.
+//! Cases that document 01 names with their values, on both sides, and the order of refusals in a record.
 //! Its starred ones are proved; those here are the ones that it leaves to this program, and their neighbours.
 use crate::areas::{empty, put, row, store_len, Areas, Kind, CHECKPOINTS, ROWS, SLOTS};
 use crate::judge::{Batch, Folder};
+use crate::port;
 use crate::tally::Tally;
 use crate::tape::Tape;
 use crate::trial::{Call, Outcome, Trial};
@@ -78,28 +79,26 @@ pub fn run(
     done: &mut dyn FnMut(Kind, Tape),
 ) -> Result<u64, (String, Vec<String>)> {
     let mut cases = 0;
+    let mut case = |kind: Kind, name: &str, areas: Areas, check: &dyn Fn(&mut Trial) -> Outcome<()>| {
+        cases += 1;
+        let mut trial = Trial::new(kind, folder, tally, empty([16, 16, 16]));
+        trial.tape = taped.then(Tape::default);
+        trial.restart(areas);
+        check(&mut trial).map_err(|m| (format!("named case, {}, {name}: {m}", kind.name()), trial.steps.clone()))?;
+        if let Some(tape) = trial.tape {
+            done(kind, tape);
+        }
+        Ok(())
+    };
     for kind in [Kind::Paired, Kind::Single] {
         for (name, areas, kept) in openings(kind) {
-            cases += 1;
-            let mut trial = Trial::new(kind, folder, tally, empty([16, 16, 16]));
-            trial.tape = taped.then(Tape::default);
-            trial.restart(areas);
-            opening(&mut trial, kept)
-                .map_err(|m| (format!("named case, {}, {name}: {m}", kind.name()), trial.steps.clone()))?;
-            if let Some(tape) = trial.tape {
-                done(kind, tape);
-            }
+            case(kind, &name, areas, &|trial| opening(trial, kept))?;
         }
         for (name, strides, spans, slot, rows) in inline(kind) {
-            cases += 1;
-            let mut trial = Trial::new(kind, folder, tally, empty([16, 16, 16]));
-            trial.tape = taped.then(Tape::default);
-            trial.restart(empty([18, 32, 16]));
-            one_record(&mut trial, strides, spans, slot, rows)
-                .map_err(|m| (format!("named case, {}, {name}: {m}", kind.name()), trial.steps.clone()))?;
-            if let Some(tape) = trial.tape {
-                done(kind, tape);
-            }
+            case(kind, name, empty([18, 32, 16]), &|trial| one_record(trial, strides, spans, slot, rows))?;
+        }
+        for (name, lens, spans, number) in refused(kind) {
+            case(kind, name, empty([20, 16, 16]), &|trial| two_records(trial, lens, spans, number))?;
         }
     }
     Ok(cases)
@@ -112,6 +111,15 @@ fn opening(trial: &mut Trial, kept: u64) -> Outcome<()> {
         return Err(format!("both sides keep {count:?}, document 01 has {kept}"));
     }
     trial.audit()
+}
+
+/// Records whose spans start where their bodies do.
+fn batch(kind: Kind, starts: &[u64], lens: &[u64], spans: &[u32]) -> Batch {
+    let (starts, lens) = (starts.to_vec(), lens.to_vec());
+    match kind {
+        Kind::Paired => Batch { span_starts: starts.clone(), spans: spans.to_vec(), starts, lens },
+        Kind::Single => Batch { starts, lens, ..Batch::default() },
+    }
 }
 
 type Inline = (&'static str, u32, u32, [u8; 2], usize);
@@ -135,17 +143,40 @@ fn inline(kind: Kind) -> Vec<Inline> {
 
 fn one_record(trial: &mut Trial, strides: u32, spans: u32, slot: [u8; 2], rows: usize) -> Outcome<()> {
     trial.call(&Call::Open)?;
-    let paired = trial.kind == Kind::Paired;
-    let batch = Batch {
-        starts: vec![16],
-        lens: vec![u64::from(strides) * 8],
-        span_starts: if paired { vec![16] } else { vec![] },
-        spans: if paired { vec![spans] } else { vec![] },
-    };
-    trial.call(&Call::Append(batch))?;
+    trial.call(&Call::Append(batch(trial.kind, &[16], &[u64::from(strides) * 8], &[spans])))?;
     trial.call(&Call::Read(vec![1]))?;
     if trial.areas[SLOTS][16..18] != slot || crate::areas::pieces(trial.kind, &trial.areas, ROWS) != rows {
         return Err(format!("both sides store slot {:?}", &trial.areas[SLOTS][16..18]));
     }
     trial.audit()
+}
+
+type Refused = (&'static str, [u64; 2], [u32; 2], u64);
+
+/// A name, two lengths, two span counts and the number. Neither body nor spans of the second record start where those of the first end.
+fn refused(kind: Kind) -> Vec<Refused> {
+    let mut list = vec![
+        ("an empty body", [0, 8], [1, 1], 22),
+        ("a body of 1 byte", [1, 8], [1, 1], 9),
+        ("a body of 7 bytes", [7, 8], [1, 1], 9),
+        ("a body of 12 bytes before an empty one", [12, 0], [1, 1], 9),
+        ("an empty body before one of 12 bytes", [0, 12], [1, 1], 22),
+        ("a body of 2^35 + 4 bytes", [(1 << 35) + 4, 8], [1, 1], 9),
+        ("a body of 2^35 bytes before an empty one", [1 << 35, 0], [1, 1], 10),
+        ("a body before an empty one that starts elsewhere", [8, 0], [1, 1], 11),
+    ];
+    if kind == Kind::Paired {
+        list.push(("an empty body without spans", [0, 8], [0, 1], 8));
+    }
+    list
+}
+
+fn two_records(trial: &mut Trial, lens: [u64; 2], spans: [u32; 2], number: u64) -> Outcome<()> {
+    trial.call(&Call::Open)?;
+    let batch = batch(trial.kind, &[16, 0], &lens, &spans);
+    let (given, _) = port::append(trial.kind, &mut trial.areas.clone(), &batch);
+    if given != number {
+        return Err(format!("port {given}, the table {number}"));
+    }
+    trial.call(&Call::Append(batch)).map(|_| ())
 }

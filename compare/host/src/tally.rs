@@ -26,10 +26,13 @@ pub const WHATS: [(What, &str); 8] = [
     (What::TornTruncate, "torn truncate"),
 ];
 
+/// 0 and the numbers of the table.
+pub const NUMBERS: usize = 23;
+
 #[derive(Default)]
 pub struct Tally {
     calls: [[u64; 8]; 2],
-    numbers: [[u64; 18]; 2],
+    numbers: [[u64; NUMBERS]; 2],
     /// Openings that stored a length.
     pub repairs: u64,
     /// States that a cut of the original left, all compared.
@@ -40,14 +43,17 @@ pub struct Tally {
     /// Texts that were read back as listings.
     pub texts: u64,
     /// How often each number came from a listing's calls.
-    listings: [u64; 21],
+    listings: [u64; NUMBERS],
     /// How often each number came from a search for an address, and how often an index and a remainder that are both not 0.
-    addresses: [u64; 22],
+    addresses: [u64; NUMBERS],
     inner: u64,
 }
 
+/// What the calls that the original has can give.
+const OF_A_CALL: [usize; 19] = [0, 1, 2, 3, 4, 5, 6, 7, 8, 9, 10, 11, 12, 13, 14, 15, 16, 17, 22];
+
 /// What a listing's calls can give: all but the lists that differ, and what other calls refuse.
-const OF_A_LISTING: [usize; 12] = [0, 1, 6, 8, 9, 10, 11, 12, 13, 18, 19, 20];
+const OF_A_LISTING: [usize; 13] = [0, 1, 6, 8, 9, 10, 11, 12, 13, 18, 19, 20, 22];
 
 /// What a search for an address can give.
 const OF_AN_ADDRESS: [usize; 5] = [0, 1, 6, 17, 21];
@@ -92,7 +98,7 @@ impl Tally {
     pub fn unseen(&self) -> Vec<String> {
         let mut list = Vec::new();
         for kind in [Kind::Paired, Kind::Single] {
-            for number in 0..18 {
+            for number in OF_A_CALL {
                 let never = kind == Kind::Single && (number == 8 || number == 12);
                 if !never && self.numbers[kind as usize][number] == 0 {
                     list.push(format!("{} {number}", kind.name()));
@@ -121,7 +127,7 @@ impl Tally {
     pub fn numbers(&self) -> String {
         let mut text = String::new();
         for kind in [Kind::Paired, Kind::Single] {
-            let list: Vec<String> = (0..18)
+            let list: Vec<String> = (0..NUMBERS)
                 .filter(|&n| self.numbers[kind as usize][n] > 0)
                 .map(|n| format!("{n}: {}", self.numbers[kind as usize][n]))
                 .collect();

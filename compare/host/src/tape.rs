@@ -2,6 +2,7 @@
 //! A step changes the expected bytes, or makes a call whose number, value, answers and bytes the original gave.
 use crate::areas::{Areas, Kind};
 use crate::judge::Batch;
+use crate::tally::NUMBERS;
 use crate::trial::Call;
 
 /// Where the three areas begin in the replay's one array of expected bytes, and how long that is.
@@ -33,7 +34,7 @@ pub struct Tape {
     pub bytes: Vec<u8>,
     pub calls: u64,
     /// How often each number was the answer.
-    pub numbers: [u64; 18],
+    pub numbers: [u64; NUMBERS],
     /// Audits: of an index that is not sound, and of one that is.
     pub audits: [u64; 2],
     /// Something in the history is too large for the replay's arrays.

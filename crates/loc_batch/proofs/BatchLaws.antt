@@ -1,25 +1,26 @@
 -- A batch record by record: its entries by place, its first refusal, and how many rows it stages.
 -- Laws in the form in which the code meets them.
-use Prim.Native.Nat.{ℕ, suc, _+_, _-_, _/_, _%_, _^_, _≤_, _<_}
+use Prim.Native.Nat.{ℕ, suc, _+_, _-_, _/_, _^_, _≤_, _<_}
 use mathlib.Core.Path.{_≡_, refl, sym, ap, _∙_}
-use mathlib.Core.Bool.{Bool, true, false, cond, not, _||_}
+use mathlib.Core.Bool.{Bool, true, false, cond, not}
 use mathlib.Core.List.{List, [], _∷_, _++_}
 use native.Mathlib.Nat.{add-zero, zero-add, add-assoc, sub-zero}
 use native.Mathlib.Omega.{arith}
-use lib.Dec.{leb, eqb}
+use lib.Dec.{eqb}
 use lib.ListN.{length, length-append}
-use borrow.Author.Tests.{eq-eqb, ne-eqb, leb-false, eqb-true, eqb-false, not-false}
+use borrow.Author.Tests.{eq-eqb, ne-eqb, eqb-false}
 use Rattle.loc_leaf.specs.declared.Kind.{Kind}
 use Rattle.loc_leaf.specs.declared.Kind.the-variants.{Paired, Single}
 use Rattle.loc_leaf.specs.declared.Value.{Value}
-use Rattle.loc_leaf.specs.Answers.{refuse, _orElse_}
-use Rattle.loc_leaf.specs.Slot.{stridesRefusal, slot, storedAsZero, needsRow}
+use Rattle.loc_leaf.specs.Answers.{_orElse_}
+use Rattle.loc_leaf.specs.Slot.{slot, storedAsZero, needsRow}
 use Rattle.loc_leaf.specs.Rows.{row}
 use Rattle.loc_calls.specs.Table.{Entry, Batch, valueOf, uneven, spanless, breaks, entryRefusal, entriesRefusal}
 use Rattle.loc_calls.specs.Stores.{gather, rowOf}
-use Rattle.loc_leaf.proofs.Booleans.{neither-left, neither-right}
+use Rattle.loc_leaf.proofs.SlotLaws.{WholeStrides}
 use Rattle.loc_leaf.proofs.ValueLaws.{SpansFit, needs-row}
-use Rattle.loc_leaf.proofs.Refusals.{orElse-first, orElse-left, orElse-right, orElse-zero, refuse-zero}
+use Rattle.loc_leaf.proofs.Refusals.{orElse-first, orElse-zero}
+use Rattle.loc_calls.proofs.Batches.{some-spans, whole-strides}
 use Rattle.loc_batch.specs.Lists.{listed, Sound, rowsOf, rowTotal, Tested}
 
 -- ---- the lists' lengths
@@ -52,7 +53,7 @@ module _ (k : Kind) (b : Batch) where
 
 -- ---- rows
 
--- a record that 8 to 10 leave needs a row where a value is stored as 0
+-- a record that 8, 22, 9 and 10 leave needs a row where a value is stored as 0
 needs-zero : (k : Kind) (e : Entry) → Sound k e → e .spans < 2 ^ 32 → needsRow k (slot k (valueOf e)) ≡ storedAsZero k (valueOf e)
 unfolding valueOf slot storedAsZero spanless SpansFit
 needs-zero Paired e s h = let z : e .spans ≡ 0 → ⊥ = eqb-false (e .spans) 0 (s .spanned) in needs-row Paired (valueOf e) (record { some = s .some; fits = s .fits; spansFit = (omega arith, h) })
@@ -86,27 +87,9 @@ unfolding entryRefusal breaks
 one-next k e d ds = refl
 
 pub left-sound : (k : Kind) (e : Entry) (ds : List Entry) (number : ℕ) → number ≡ entryRefusal k e ds → number ≡ 0 → Sound k e
-unfolding entryRefusal stridesRefusal
-left-sound k e ds number q z = record {
-  some = omega (arith, whole, there);
-  fits = leb-false (2 ^ 32) (e .len / 8) (refuse-zero (leb (2 ^ 32) (e .len / 8)) 9 (orElse-right (refuse odd 9) (refuse (leb (2 ^ 32) (e .len / 8)) 10) strides));
-  spanned = refuse-zero (spanless k e) 7 (orElse-left (refuse (spanless k e) 8) (stridesRefusal (e .len) orElse breaks e ds) (sym q ∙ z));
-}
-  where
-    odd : Bool
-    odd = eqb (e .len) 0 || not (eqb (e .len % 8) 0)
-
-    strides : stridesRefusal (e .len) ≡ 0
-    strides = orElse-left (stridesRefusal (e .len)) (breaks e ds) (orElse-right (refuse (spanless k e) 8) (stridesRefusal (e .len) orElse breaks e ds) (sym q ∙ z))
-
-    even : odd ≡ false
-    even = refuse-zero odd 8 (orElse-left (refuse odd 9) (refuse (leb (2 ^ 32) (e .len / 8)) 10) strides)
-
-    whole : e .len % 8 ≡ 0
-    whole = eqb-true (e .len % 8) 0 (not-false (eqb (e .len % 8) 0) (neither-right (eqb (e .len) 0) (not (eqb (e .len % 8) 0)) even))
-
-    there : e .len ≡ 0 → ⊥
-    there = eqb-false (e .len) 0 (neither-left (eqb (e .len) 0) (not (eqb (e .len % 8) 0)) even)
+left-sound k e ds number q z =
+    let t : WholeStrides (e .len) = whole-strides k e ds (sym q ∙ z) in
+    record { some = t .1; fits = t .2; spanned = some-spans k e ds (sym q ∙ z) }
 
 -- the records before the one at hand are passed, with so many rows; i is the next record's place
 pub record Passed (k : Kind) (f : ℕ → Entry) (n : ℕ) (e : Entry) (rows i : ℕ) : Type 0 where

@@ -32,7 +32,7 @@ unfoldable pub listed : (ℕ → Entry) → ℕ → ℕ → List Entry
 listed f i zero = []
 listed f i (suc n) = f i ∷ listed f (i + 1) n
 
--- what 8 to 10 leave of a record
+-- what 8, 22, 9 and 10 leave of a record
 pub record Sound (k : Kind) (e : Entry) : Type 0 where
   pub some : 0 < e .len / 8
   pub fits : e .len / 8 < 2 ^ 32

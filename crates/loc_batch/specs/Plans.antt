@@ -72,7 +72,7 @@ pub record Ready (k : Kind) (a : Areas) (es : List Entry) (t : Stage) : Type 0 w
   pub newCheckpoints : t .new .checkpoints ≡ newEnd (a .checkpoints) (gather (checkpointOf k) (t .base) es)
   pub room : RoomPast k (t .base) (t .n) es a
 
--- the refusals 7 to 13 and, where there is none, a stage of the batch's records
+-- the refusals 7 to 13 and 22 and, where there is none, a stage of the batch's records
 pub record Planned (k : Kind) (a : Areas) (b : Batch) (d : Decision) : Type 0 where
   pub number : d .number ≡ table k (count a) (newEnds k a) (sizes a) (append b)
   pub entries : d .number ≡ 0 → Rattle.loc_calls.specs.Table.entries k b ≡ listed (entryAt k b) 0 (d .stage .n)

@@ -1,4 +1,4 @@
-// A batch's refusals 7 to 12, and how many rows it stages.
+// A batch's refusals 7 to 12 and 22, and how many rows it stages.
 // One pass over the records decides both.
 ghost use mathlib.Core.Path.{_≡_};
 ghost use mathlib.Core.Bool.{not};

@@ -100,7 +100,7 @@ fn break_number(e: Record, next: Record) -> u64
     0
 }
 
-// 8, 9 or 10, of a record by itself.
+// 8, 22, 9 or 10, of a record by itself.
 pub fn own_number(kind: Kind, e: Record) -> u64
     ensures { λ r. ⌜ r ≡ entryRefusal kind (asEntry e) [] ⌝ }
 {
@@ -110,7 +110,7 @@ pub fn own_number(kind: Kind, e: Record) -> u64
     loc_leaf::delta_loc::strides_from_aligned_len(e.len).number
 }
 
-// 8 to 12, of a record and the one after it.
+// 8, 22, 9 to 12, of a record and the one after it.
 pub fn record_number(kind: Kind, e: Record, next: Record) -> u64
     ensures { λ r. ⌜ r ≡ entryRefusal kind (asEntry e) (asEntry next ∷ []) ⌝ }
 {

@@ -1,4 +1,4 @@
-// What an append decides before it stores: its refusals 7 to 13 and, where there is none, its stage.
+// What an append decides before it stores: its refusals 7 to 13 and 22 and, where there is none, its stage.
 // Nothing is stored here.
 ghost use mathlib.Core.Path.{_≡_};
 ghost use mathlib.Core.Bool.{false};
@@ -96,7 +96,7 @@ fn reach(
     }
 }
 
-// 7 to 13, or the stage of the batch.
+// 7 to 13 and 22, or the stage of the batch.
 pub fn plan_append(
     kind: Kind,
     slots: &[u8],

@@ -1,19 +1,20 @@
 -- What the table's tests of a batch leave: valid records, each of which starts where the one before ends, and room for them.
 -- A batch that is not refused and starts where a good list ends makes a longer good list.
-use Prim.Native.Nat.{ℕ, zero, suc, _+_, _*_, _/_, _%_, _^_, _≤_, _<_}
+use Prim.Native.Nat.{ℕ, zero, suc, _+_, _*_, _^_, _≤_, _<_}
 use mathlib.Core.Path.{_≡_, refl, _∙_}
-use mathlib.Core.Bool.{Bool, false, not, _||_}
+use mathlib.Core.Bool.{false, not, _||_}
 use mathlib.Core.List.{List, [], _∷_, _++_, flatten}
 use native.Mathlib.Omega.{arith}
-use lib.Dec.{leb, ltb, eqb}
+use lib.Dec.{ltb, eqb}
 use lib.ListN.{length, replicate}
-use borrow.Author.Tests.{leb-false, ltb-false, eqb-true, eqb-false, not-false}
+use borrow.Author.Tests.{ltb-false, eqb-true, eqb-false, not-false}
 use Rattle.loc_leaf.specs.declared.Kind.{Kind}
 use Rattle.loc_leaf.specs.declared.Kind.the-variants.{Paired, Single}
 use Rattle.loc_leaf.specs.Bytes.{Bytes}
 use Rattle.loc_leaf.specs.Answers.{refuse, _orElse_}
 use Rattle.loc_leaf.specs.Slot.{stridesRefusal}
 use Rattle.loc_leaf.proofs.Booleans.{neither-left, neither-right}
+use Rattle.loc_leaf.proofs.SlotLaws.{WholeStrides, strides-fit}
 use Rattle.loc_leaf.proofs.Refusals.{orElse-left, orElse-right, refuse-zero}
 use Rattle.loc_leaf.proofs.AreaLaws.{counted-le}
 use Rattle.loc_leaf.proofs.ValueLaws.{SpansFit}
@@ -31,44 +32,27 @@ SpansOf k [] = Unit
 SpansOf Paired (e ∷ es) = (e .spans < 2 ^ 32) × SpansOf Paired es
 SpansOf Single (e ∷ es) = (e .spans ≡ 0) × SpansOf Single es
 
--- 8 to 10 leave a valid record
+-- 8, 22, 9 and 10 leave a valid record
 module _ (k : Kind) (e : Entry) (es : List Entry) (h : entryRefusal k e es ≡ 0) where
-  not-8 : spanless k e ≡ false
+  pub some-spans : spanless k e ≡ false
   unfolding entryRefusal
-  not-8 = refuse-zero (spanless k e) 7 (orElse-left (refuse (spanless k e) 8) (stridesRefusal (e .len) orElse breaks e es) h)
+  some-spans = refuse-zero (spanless k e) 7 (orElse-left (refuse (spanless k e) 8) (stridesRefusal (e .len) orElse breaks e es) h)
 
-  not-9-nor-10 : stridesRefusal (e .len) ≡ 0
+  later : (stridesRefusal (e .len) orElse breaks e es) ≡ 0
   unfolding entryRefusal
-  not-9-nor-10 = orElse-left (stridesRefusal (e .len)) (breaks e es) (orElse-right (refuse (spanless k e) 8) (stridesRefusal (e .len) orElse breaks e es) h)
+  later = orElse-right (refuse (spanless k e) 8) (stridesRefusal (e .len) orElse breaks e es) h
+
+  pub whole-strides : WholeStrides (e .len)
+  whole-strides = strides-fit (e .len) (orElse-left (stridesRefusal (e .len)) (breaks e es) later)
 
   unbroken : breaks e es ≡ 0
-  unfolding entryRefusal
-  unbroken = orElse-right (stridesRefusal (e .len)) (breaks e es) (orElse-right (refuse (spanless k e) 8) (stridesRefusal (e .len) orElse breaks e es) h)
-
-strides-fit : (len : ℕ) → stridesRefusal len ≡ 0 → (len % 8 ≡ 0) × (0 < len / 8) × (len / 8 < 2 ^ 32)
-unfolding stridesRefusal
-strides-fit len h = (whole, omega (arith, whole, there), leb-false (2 ^ 32) (len / 8) (refuse-zero (leb (2 ^ 32) (len / 8)) 9 (orElse-right nine (refuse (leb (2 ^ 32) (len / 8)) 10) h)))
-  where
-    odd : Bool
-    odd = eqb len 0 || not (eqb (len % 8) 0)
-
-    nine : ℕ
-    nine = refuse odd 9
-
-    not-9 : odd ≡ false
-    not-9 = refuse-zero odd 8 (orElse-left nine (refuse (leb (2 ^ 32) (len / 8)) 10) h)
-
-    whole : len % 8 ≡ 0
-    whole = eqb-true (len % 8) 0 (not-false (eqb (len % 8) 0) (neither-right (eqb len 0) (not (eqb (len % 8) 0)) not-9))
-
-    there : len ≡ 0 → ⊥
-    there = eqb-false len 0 (neither-left (eqb len 0) (not (eqb (len % 8) 0)) not-9)
+  unbroken = orElse-right (stridesRefusal (e .len)) (breaks e es) later
 
 valid-entry : (k : Kind) (e : Entry) (es : List Entry) → entryRefusal k e es ≡ 0 → SpansOf k (e ∷ []) → ValidEntry k e
 unfolding valueOf
 valid-entry k e es h n =
-    let t : (e .len % 8 ≡ 0) × (0 < e .len / 8) × (e .len / 8 < 2 ^ 32) = strides-fit (e .len) (not-9-nor-10 k e es h) in
-    record { whole = t .0; value = record { some = t .1; fits = t .2; spansFit = spans k (not-8 k e es h) n } }
+    let t : WholeStrides (e .len) = whole-strides k e es h in
+    record { whole = t .0; value = record { some = t .1; fits = t .2; spansFit = spans k (some-spans k e es h) n } }
   where
     spans : (k : Kind) → spanless k e ≡ false → SpansOf k (e ∷ []) → SpansFit k (e .spans)
     spans Paired t n = unfold SpansFit SpansOf spanless in (let z : e .spans ≡ 0 → ⊥ = eqb-false (e .spans) 0 t in (omega arith, n .0))

@@ -3,7 +3,7 @@
 use Prim.Native.Nat.{ℕ, _+_, _*_, _^_, _-_}
 use mathlib.Core.Path.{_≡_, refl}
 use mathlib.Core.Bool.{true}
-use mathlib.Core.List.{List, [], _∷_, _++_, flatten}
+use mathlib.Core.List.{List, [], _∷_, _++_, map, flatten}
 use lib.ListN.{replicate}
 use Rattle.loc_leaf.specs.declared.Kind.{Kind}
 use Rattle.loc_leaf.specs.declared.Kind.the-variants.{Paired, Single}
@@ -100,7 +100,7 @@ high = three (area 2066 (replicate 2048 5 ++ (2 ∷ 2 ∷ []))) (area 16 []) (ar
 abbrev located : ℕ → ℕ → ℕ → SpanAt
 located id i m = record { number = 0; «record» = id; index = i; remainder = m }
 
--- ---- every number of the table, 1 to 17
+-- ---- every number that opening, append, truncation and reading give: 1 to 17 and 22
 
 abbrev numbers : List ℕ
 numbers =
@@ -121,13 +121,32 @@ numbers =
     ∷ numberOf Paired (read (replicate 1025 1) []) full
     ∷ numberOf Paired (read (0 ∷ []) (9 ∷ [])) full
     ∷ numberOf Paired (read (2 ∷ []) (replicate 6 9)) rowless
+    ∷ numberOf Paired (batch (16 ∷ []) (0 ∷ []) (16 ∷ []) (1 ∷ [])) empty
+    ∷ []
+
+-- ---- the order in a record: each has faults that later tests would find, and an empty body follows
+
+abbrev broken : ℕ → ℕ → Call
+broken len spans = batch (16 ∷ 0 ∷ []) (len ∷ 0 ∷ []) (16 ∷ 0 ∷ []) (spans ∷ 1 ∷ [])
+
+abbrev inOrder : List ℕ
+inOrder =
+    numberOf Paired (broken 0 0) empty
+    ∷ numberOf Paired (broken 0 1) empty
+    ∷ numberOf Paired (broken (2 ^ 35 + 4) 1) empty
+    ∷ numberOf Paired (broken (2 ^ 35) 1) empty
+    ∷ numberOf Paired (broken 8 1) empty
+    ∷ numberOf Paired (batch (16 ∷ 24 ∷ []) (8 ∷ 0 ∷ []) (16 ∷ 0 ∷ []) (1 ∷ 1 ∷ [])) empty
     ∷ []
 
 -- ---- what is computed
 
 pub record Computed : Type 0 where
-  -- each number in turn
-  refusals : numbers ≡ 1 ∷ 2 ∷ 3 ∷ 4 ∷ 5 ∷ 6 ∷ 7 ∷ 8 ∷ 9 ∷ 10 ∷ 11 ∷ 12 ∷ 13 ∷ 14 ∷ 15 ∷ 16 ∷ 17 ∷ []
+  -- each number in turn, and in the order of a record
+  refusals : numbers ≡ 1 ∷ 2 ∷ 3 ∷ 4 ∷ 5 ∷ 6 ∷ 7 ∷ 8 ∷ 9 ∷ 10 ∷ 11 ∷ 12 ∷ 13 ∷ 14 ∷ 15 ∷ 16 ∷ 17 ∷ 22 ∷ []
+  ordered : inOrder ≡ 8 ∷ 22 ∷ 9 ∷ 10 ∷ 11 ∷ 12 ∷ []
+  -- an empty body, ragged ones shorter and longer than a stride, the longest, and one past it
+  told-apart : map stridesRefusal (0 ∷ 1 ∷ 7 ∷ 8 ∷ 12 ∷ (2 ^ 35 - 8) ∷ 2 ^ 35 ∷ []) ≡ 22 ∷ 9 ∷ 9 ∷ 0 ∷ 9 ∷ 0 ∷ 10 ∷ []
   -- create stores three lengths; a refusal leaves all as it was
   creates : create (three (replicate 16 3) (replicate 17 3) (replicate 18 3))
       ≡ record { answer = record { number = 0; value = 0 }; buffer = []; areas = three (replicate 8 3 ++ bytes 8 16) (replicate 8 3 ++ (bytes 8 16 ++ (3 ∷ []))) (replicate 8 3 ++ (bytes 8 16 ++ (3 ∷ 3 ∷ []))) }
@@ -186,6 +205,8 @@ pub computed : Computed
 unfolding number bytes numberAt store answer counted storeLength storePast pieces fill published stridesRefusal slot needsRow inline slotAt checkpointRule row rowNumber rowValue rowList ascending lastNumber rowsUpTo rowFor hasRow lookup slotValue matches cuts cutFor sizes count valueOf bodyAfter spanAfter zipped entries uneven spanless breaks entryRefusal entriesRefusal endPast batchRefusal table step run differing truncatePlaces nextRow holdsNext cutRule ruledCount ruled openPlaces ragged openRefusal stores anyStores settled checkpoint gather rowOf checkpointOf staged newEnd newEnds appendPlaces sumAfter allAfter lookupAt has valueIn valueAt stridesAfter spansAfter checkpointAt windowEnd lookedAt within rowMissing anyMissing words wordsFor answered found bodySum spanSum checkpointSound sound unlessRefused tooSmall unread isOpening refusal places value lent buffer areasAfter call createPlaces create audit flatten firstAfter wholeRefusal holds crossing spanAmong spanAt
 computed = record {
   refusals = refl;
+  ordered = refl;
+  told-apart = refl;
   creates = refl;
   refuses = refl;
   append-0 = refl;

@@ -2,7 +2,7 @@
 -- What holds of each number of the table holds of the one that a call gives.
 use Prim.Native.Nat.{ℕ, zero, suc, _*_, _/_, _%_, _^_, _≤_}
 use mathlib.Core.Path.{_≡_, refl, sym, ap, _∙_}
-use mathlib.Core.Bool.{Bool, true, false, cond, not, _&&_, _||_}
+use mathlib.Core.Bool.{Bool, true, false, cond, not, _&&_}
 use mathlib.Core.List.{List, [], _∷_}
 use native.Mathlib.Omega.{arith}
 use lib.Dec.{leb, ltb, eqb}
@@ -30,8 +30,8 @@ use Rattle.loc_calls.proofs.Outcomes.{refused}
 
 -- ---- the table's numbers
 
--- what holds of 0 and of 7 to 16 holds of the number that the table gives
-module _ (P : ℕ → Type 0) (none : P 0) (each : (n : ℕ) → 7 ≤ n → n ≤ 16 → P n) where
+-- what holds of 0, of 7 to 16 and of 22 holds of the number that the table gives
+module _ (P : ℕ → Type 0) (none : P 0) (each : (n : ℕ) → 7 ≤ n → n ≤ 16 → P n) (empty : P 22) where
   tested : (n : ℕ) (b : Bool) → (leb 7 n && leb n 16) ≡ true → P (refuse b n)
   tested n b h = refuse-holds P n b none (each n (leb-true 7 n (both-left (leb 7 n) (leb n 16) h)) (leb-true n 16 (both-right (leb 7 n) (leb n 16) h)))
 
@@ -42,7 +42,7 @@ module _ (P : ℕ → Type 0) (none : P 0) (each : (n : ℕ) → 7 ≤ n → n �
 
   strides-holds : (len : ℕ) → P (stridesRefusal len)
   unfolding stridesRefusal
-  strides-holds len = orElse-holds P (tested 9 (eqb len 0 || not (eqb (len % 8) 0)) refl) (tested 10 (leb (2 ^ 32) (len / 8)) refl)
+  strides-holds len = orElse-holds P (refuse-holds P 22 (eqb len 0) none empty) (orElse-holds P (tested 9 (not (eqb (len % 8) 0)) refl) (tested 10 (leb (2 ^ 32) (len / 8)) refl))
 
   entries-holds : (k : Kind) (es : List Entry) → P (entriesRefusal k es)
   unfolding entriesRefusal entryRefusal
@@ -74,7 +74,7 @@ pub first : {x y : ℕ} → x ≤ largest → y ≤ largest → (x orElse y) ≤
 first p q = orElse-holds Numbered p q
 
 table-in : (k : Kind) (n : ℕ) (ends : List Entry → Three ℕ) (size : Three ℕ) (c : Call) → Numbered (table k n ends size c)
-table-in = table-holds Numbered (omega arith) (λ n g l. omega arith)
+table-in = table-holds Numbered (omega arith) (λ n g l. omega arith) (omega arith)
 
 open-in : (k : Kind) (a : Areas) → Numbered (openRefusal k a)
 unfolding openRefusal

@@ -1,4 +1,4 @@
--- The calls, and the table of refusals that count, ends and sizes decide: 7 to 16 (document 01, "What each call gives").
+-- The calls, and the table of refusals that count, ends and sizes decide: 7 to 16 and 22 (document 01, "What each call gives"; document 02, Item 3).
 -- The index and the book both refuse by this table.
 use Prim.Native.Nat.{ℕ, _+_, _-_, _*_, _/_, _^_, min}
 use mathlib.Core.Bool.{Bool, false, not, _&&_}
@@ -86,7 +86,7 @@ unfoldable pub breaks : Entry → List Entry → ℕ
 breaks e [] = 0
 breaks e (d ∷ ds) = refuse (not (eqb (d .start) (bodyAfter e))) 11 orElse refuse (not (eqb (d .spanStart) (spanAfter e))) 12
 
--- 8 to 12
+-- 8, 22, 9 to 12
 unfoldable pub entryRefusal : Kind → Entry → List Entry → ℕ
 entryRefusal k e es = refuse (spanless k e) 8 orElse stridesRefusal (e .len) orElse breaks e es
 
@@ -99,7 +99,7 @@ entriesRefusal k (e ∷ es) = entryRefusal k e es orElse entriesRefusal k es
 unfoldable pub endPast : Three ℕ → Three ℕ → Bool
 endPast ends size = some (each₂ ltb size ends)
 
--- an empty batch accepted, record by record 8 to 12, then 13
+-- an empty batch accepted, record by record 8, 22, 9 to 12, then 13
 unfoldable pub batchRefusal : Kind → Three ℕ → Three ℕ → List Entry → ℕ
 batchRefusal k ends size [] = 0
 batchRefusal k ends size (e ∷ es) = entriesRefusal k (e ∷ es) orElse refuse (endPast ends size) 13

@@ -1,6 +1,6 @@
 -- Which numbers a lawful history can give: the book refuses by the table alone.
 -- The index replies as the book does, so 1 to 6 and 17 never come.
-use Prim.Native.Nat.{ℕ, _≤_}
+use Prim.Native.Nat.{ℕ}
 use mathlib.Core.Path.{sym, subst}
 use mathlib.Core.List.{List, [], _∷_}
 use native.Mathlib.Omega.{arith}
@@ -12,16 +12,12 @@ use Rattle.loc_history.specs.Book.{Rec, bookRefusal, bookReply}
 use Rattle.loc_history.specs.History.{Event, finished, torn, tornBytes, bookAfter, bookGives, bookReplies, Demand3, Possible, AllPossible, NeverCome}
 use Rattle.loc_history.proofs.History.{demand3}
 
-table-possible : (n : ℕ) → 7 ≤ n → n ≤ 16 → Possible n
-unfolding Possible
-table-possible n g l = (λ p q. omega arith, λ e. omega arith)
-
 module _ (k : Kind) (size : Three ℕ) where
   reply-possible : (L : List Rec) (c : Call) → Possible ((bookReply k size L c) .answer .number)
-  unfolding bookReply bookRefusal
+  unfolding bookReply bookRefusal Possible
   reply-possible L c =
       rw (number-is (bookRefusal k size L c) _)
-      (table-holds Possible (unfold Possible in (λ p q. omega arith, λ e. omega arith)) table-possible k _ _ size c)
+      (table-holds Possible (λ p q. omega arith, λ e. omega arith) (λ n g l. (λ p q. omega arith, λ e. omega arith)) (λ p q. omega arith, λ e. omega arith) k _ _ size c)
 
   replies-possible : (es : List Event) (L : List Rec) → AllPossible (bookReplies k size L es)
   unfolding bookReplies bookGives AllPossible

@@ -2,28 +2,33 @@
 -- A law for each way through a function: the results of its calls and its tests are premises.
 use Prim.Native.Nat.{ℕ, _+_, _-_, _*_, _/_, _%_, _^_, _≤_, _<_, min}
 use mathlib.Core.Path.{_≡_, refl, sym, ap, _∙_}
-use mathlib.Core.Bool.{Bool, true, false}
+use mathlib.Core.Bool.{Bool, true, false, not}
 use mathlib.Core.List.{[], _∷_}
 use native.Mathlib.Omega.{arith}
 use native.Mathlib.Decide.{decLe}
 use lib.Dec.{leb, eqb}
 use lib.ListN.{length, take, drop, drop-of-length-le}
 use lib.Seq.{getD-take, drop-length}
-use borrow.Author.Tests.{lt-ltb, le-ltb, le-leb, lt-leb, eq-eqb, ne-eqb}
+use borrow.Author.Tests.{lt-ltb, le-ltb, le-leb, lt-leb, eq-eqb, ne-eqb, leb-false, eqb-true, eqb-false, not-false}
 use Rattle.loc_leaf.specs.declared.Kind.{Kind}
 use Rattle.loc_leaf.specs.declared.Kind.the-variants.{Paired, Single}
 use Rattle.loc_leaf.specs.declared.Value.{Value}
 use Rattle.loc_leaf.specs.Bytes.{Bytes, byte, bytes, numberAt}
-use Rattle.loc_leaf.specs.Answers.{answer}
+use Rattle.loc_leaf.specs.Answers.{refuse, _orElse_, answer}
 use Rattle.loc_leaf.specs.Slot.{stridesRefusal, stridesFrom, below, slot, needsRow, inline, slotAt, checkpointRule}
 use Rattle.loc_leaf.specs.Rows.{rowNumber, rowValue}
 use Rattle.loc_leaf.specs.Cut.{agrees, overflows, matches, cuts, cutFor}
+use Rattle.loc_leaf.proofs.Refusals.{orElse-left, orElse-right, refuse-zero}
 use Rattle.loc_leaf.proofs.NumberLaws.{part-all}
 
 -- ---- strides
 
+-- what 22, 9 and 10 leave of a length: whole strides, one or more, of 32 bits
+abbrev pub WholeStrides : ℕ → Type 0
+WholeStrides len = (len % 8 ≡ 0) × (0 < len / 8) × (len / 8 < 2 ^ 32)
+
 module _ (len : ℕ) where
-  pub strides-none : len ≡ 0 → record { number = 9; value = 0 } ≡ stridesFrom len
+  pub strides-none : len ≡ 0 → record { number = 22; value = 0 } ≡ stridesFrom len
   unfolding stridesFrom stridesRefusal answer
   strides-none e = rw (eq-eqb len 0 e) refl
 
@@ -38,6 +43,29 @@ module _ (len : ℕ) where
   pub strides-of : (len ≡ 0 → ⊥) → len % 8 ≡ 0 → len / 8 < 2 ^ 32 → record { number = 0; value = len / 8 } ≡ stridesFrom len
   unfolding stridesFrom stridesRefusal answer
   strides-of h e l = rw (ne-eqb len 0 h, eq-eqb (len % 8) 0 e, lt-leb (2 ^ 32) (len / 8) l) refl
+
+  pub strides-fit : stridesRefusal len ≡ 0 → WholeStrides len
+  unfolding stridesRefusal
+  strides-fit h = (whole, omega (arith, whole, some), leb-false (2 ^ 32) (len / 8) (refuse-zero (leb (2 ^ 32) (len / 8)) 9 (orElse-right nine ten nine-or-ten)))
+    where
+      nine : ℕ
+      nine = refuse (not (eqb (len % 8) 0)) 9
+
+      ten : ℕ
+      ten = refuse (leb (2 ^ 32) (len / 8)) 10
+
+      some : len ≡ 0 → ⊥
+      some = eqb-false len 0 (refuse-zero (eqb len 0) 21 (orElse-left (refuse (eqb len 0) 22) (nine orElse ten) h))
+
+      nine-or-ten : (nine orElse ten) ≡ 0
+      nine-or-ten = orElse-right (refuse (eqb len 0) 22) (nine orElse ten) h
+
+      whole : len % 8 ≡ 0
+      whole = eqb-true (len % 8) 0 (not-false (eqb (len % 8) 0) (refuse-zero (not (eqb (len % 8) 0)) 8 (orElse-left nine ten nine-or-ten)))
+
+  pub strides-good : WholeStrides len → stridesRefusal len ≡ 0
+  unfolding stridesRefusal
+  strides-good h = rw (ne-eqb len 0 (λ z. omega (arith, h .1)), eq-eqb (len % 8) 0 (h .0), lt-leb (2 ^ 32) (len / 8) (h .2)) refl
 
 -- ---- slots
 

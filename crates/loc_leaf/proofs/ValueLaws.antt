@@ -1,5 +1,5 @@
 -- Slots and rows of a valid value read back, and when a slot needs a row.
--- A value is valid as the tests 8 to 10 leave it.
+-- A value is valid as the tests 8, 22, 9 and 10 leave it.
 use Prim.Native.Nat.{ℕ, _+_, _*_, _/_, _%_, _^_, _<_}
 use mathlib.Core.Path.{_≡_, refl, _∙_}
 use mathlib.Core.Logic.{_⊎_, inl, inr}

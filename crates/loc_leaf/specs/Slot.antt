@@ -1,4 +1,4 @@
--- Strides, slots and the checkpoint rule (document 01, "delta_loc.rs, leaf part").
+-- Strides, slots and the checkpoint rule (document 01, "delta_loc.rs, leaf part"; document 02, Item 3).
 -- A slot is two bytes.
 use Prim.Native.Nat.{ℕ, _+_, _-_, _*_, _/_, _%_, _^_}
 use mathlib.Core.Bool.{Bool, cond, not, _&&_, _||_}
@@ -12,9 +12,9 @@ use Rattle.loc_leaf.specs.declared.Answer.{Answer}
 use Rattle.loc_leaf.specs.Bytes.{Bytes, byte, bytes}
 use Rattle.loc_leaf.specs.Answers.{refuse, _orElse_, answer}
 
--- 9: length 0 or no multiple of 8; 10: more than 2^32 − 1 strides
+-- 22: length 0; 9: length no multiple of 8; 10: more than 2^32 − 1 strides
 unfoldable pub stridesRefusal : ℕ → ℕ
-stridesRefusal len = refuse (eqb len 0 || not (eqb (len % 8) 0)) 9 orElse refuse (leb (2 ^ 32) (len / 8)) 10
+stridesRefusal len = refuse (eqb len 0) 22 orElse refuse (not (eqb (len % 8) 0)) 9 orElse refuse (leb (2 ^ 32) (len / 8)) 10
 
 -- length to strides: divide by 8
 unfoldable pub stridesFrom : ℕ → Answer

@@ -80,7 +80,7 @@ pub fn strides_from_aligned_len(len: u64) -> Answer
 {
     if len == 0 {
         return Answer {
-            number: 9,
+            number: 22,
             value: 0,
         };
     }

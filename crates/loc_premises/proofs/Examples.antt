@@ -107,6 +107,7 @@ computed = record {
       then ((λ p. p), tt, omega arith)
       then ((λ p. p), tt)
       then ((λ p. p), (tt, λ _. record { starts = tt; carries = refl; ends = omega arith }))
+      then ((λ p. p), (tt, λ _. record { starts = tt; carries = refl; ends = omega arith }))
       then ((λ p. p), tt)
       then tt;
   edge-lawful =

@@ -15,7 +15,7 @@ use Rattle.loc_round_trip.specs.Listings.{indexAfterAny, indexGivesAny, anyInde
 use Rattle.loc_round_trip.proofs.Listings.{demand3-listings}
 use Rattle.loc_premises.specs.Replies.{small}
 use Rattle.loc_premises.specs.Listed.{listedStory, Listed}
-use Rattle.loc_premises.proofs.Examples.{everything, Computed, computed}
+use Rattle.loc_premises.proofs.Examples.{everything, computed}
 
 -- to unfold this is to unfold all that a listing in a history is computed by
 unfoldable pub listings : Type 0
@@ -40,6 +40,7 @@ lawful =
     before ((λ p. p), tt)
     before ((λ p. p), λ _. record { starts = tt; carries = (refl, refl); ends = (omega arith, omega arith) })
     before ((λ p. p), tt)
+    before ((λ p. p), λ (z : _≡_ {A = ℕ} 22 0). absurd (omega arith))
     before ((λ p. p), λ _. record { starts = tt; carries = (refl, refl); ends = (omega arith, omega arith) })
     before ((λ p. p), tt)
     before tt

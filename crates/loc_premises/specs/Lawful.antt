@@ -74,6 +74,7 @@ singleStory =
     ∷ torn 0 opening
     ∷ finished opening
     ∷ finished (append (batch (24 ∷ []) (12 ∷ []) [] []))
+    ∷ finished (append (batch (24 ∷ []) (0 ∷ []) [] []))
     ∷ finished (truncate 0)
     ∷ []
 
@@ -87,6 +88,7 @@ singleReplies =
     ∷ refuses 16 (replicate 5 9)
     ∷ gives 0 1
     ∷ gives 9 0
+    ∷ gives 22 0
     ∷ gives 0 0
     ∷ []
 

@@ -13,7 +13,7 @@ use Rattle.loc_listing.specs.Text.{line, names}
 use Rattle.loc_round_trip.specs.Listings.{AnyEvent, event, listing, tornListing, tornListingBytes, anyIndexReplies, anyBookReplies}
 use Rattle.loc_premises.specs.Replies.{gives, reads, small}
 
--- records 1 and 2; 3 and 4, of which the second has a row; another record 4
+-- records 1 and 2; 3 and 4, of which the second has a row; another record 4; one with an empty body
 abbrev pub first : List ℕ
 first = names ++ (line (1 ∷ 16 ∷ 40 ∷ 16 ∷ 24 ∷ 3 ∷ []) ++ line (2 ∷ 56 ∷ 2048 ∷ 40 ∷ 8 ∷ 1 ∷ []))
 
@@ -23,6 +23,9 @@ second = names ++ (line (3 ∷ 2104 ∷ 8 ∷ 48 ∷ 8 ∷ 1 ∷ []) ++ line (4 
 abbrev pub third : List ℕ
 third = names ++ line (4 ∷ 2112 ∷ 8 ∷ 56 ∷ 8 ∷ 1 ∷ [])
 
+abbrev pub blank : List ℕ
+blank = names ++ line (4 ∷ 2112 ∷ 0 ∷ 56 ∷ 8 ∷ 1 ∷ [])
+
 abbrev pub listedStory : List AnyEvent
 listedStory =
     listing first
@@ -31,13 +34,14 @@ listedStory =
     ∷ event (finished opening)
     ∷ tornListingBytes third (record { slots = 1 ∷ 2 ∷ 3 ∷ []; rows = replicate 99 1; checkpoints = 5 ∷ [] })
     ∷ event (finished opening)
+    ∷ listing blank
     ∷ listing third
     ∷ event (finished (read (4 ∷ []) (replicate 6 9)))
     ∷ []
 
--- the first comes again: 19. Of the second's two records the tear keeps the one without a row
+-- the first comes again: 19. Of the second's two records the tear keeps the one without a row. The empty body: 22
 abbrev pub listedReplies : List Reply
-listedReplies = gives 0 2 ∷ gives 19 0 ∷ gives 0 3 ∷ gives 0 3 ∷ gives 0 4 ∷ reads 1 (1 ∷ 2112 ∷ 8 ∷ 56 ∷ 8 ∷ 1 ∷ []) ∷ []
+listedReplies = gives 0 2 ∷ gives 19 0 ∷ gives 0 3 ∷ gives 0 3 ∷ gives 22 0 ∷ gives 0 4 ∷ reads 1 (1 ∷ 2112 ∷ 8 ∷ 56 ∷ 8 ∷ 1 ∷ []) ∷ []
 
 unfoldable pub Listed : Type 0
 Listed = (anyIndexReplies ((create small) .areas) listedStory ≡ listedReplies) × (anyBookReplies (sizes small) [] listedStory ≡ listedReplies)

@@ -1,15 +1,16 @@
 -- The batch of a good list of valid records: its lists, and that an empty index with room for it takes it.
--- 7 to 13 are passed one by one.
-use Prim.Native.Nat.{ℕ, _+_, _*_, _/_, _%_, _^_, _<_}
+-- 7 to 13 and 22 are passed one by one.
+use Prim.Native.Nat.{ℕ, _+_, _*_, _^_, _<_}
 use mathlib.Core.Path.{_≡_, refl, sym, ap, _∙_, subst}
 use mathlib.Core.Bool.{true, false}
 use mathlib.Core.List.{List, [], _∷_, map}
 use native.Mathlib.Omega.{arith}
 use lib.Dec.{eqb}
 use lib.ListN.{length, length-map}
-use borrow.Author.Tests.{eq-eqb, ne-eqb, lt-leb, le-ltb}
+use borrow.Author.Tests.{eq-eqb, ne-eqb, le-ltb}
 use Rattle.loc_leaf.specs.declared.Kind.the-variants.{Paired}
 use Rattle.loc_leaf.specs.Slot.{stridesRefusal}
+use Rattle.loc_leaf.proofs.SlotLaws.{strides-good}
 use Rattle.loc_leaf.proofs.ValueLaws.{SpansFit}
 use Rattle.loc_calls.specs.Areas.{Areas, sizes}
 use Rattle.loc_calls.specs.Table.{Entry, valueOf, bodyAfter, spanAfter, Batch, append, zipped, entries, uneven, spanless, breaks, entryRefusal, entriesRefusal, endPast, batchRefusal, table}
@@ -55,11 +56,7 @@ even : (E : List Entry) → uneven Paired (batchOf E) ≡ false
 unfolding uneven
 even E = simp (length-map, eq-eqb (length E) (length E) refl)
 
--- ---- 8 to 12
-
-strides-good : (len : ℕ) → len % 8 ≡ 0 → 0 < len / 8 → len / 8 < 2 ^ 32 → stridesRefusal len ≡ 0
-unfolding stridesRefusal
-strides-good len h g l = rw (ne-eqb len 0 (λ z. omega arith), eq-eqb (len % 8) 0 h, lt-leb (2 ^ 32) (len / 8) l) refl
+-- ---- 8, 22, 9 to 12
 
 entries-good : (b s : ℕ) (E : List Entry) → Chained b s E → AllValid Paired E → b + lens E < 2 ^ 64 → s + 8 * spans E < 2 ^ 64 → entriesRefusal Paired E ≡ 0
 unfolding entriesRefusal Chained AllValid lens spans
@@ -71,7 +68,7 @@ entries-good b s (e ∷ E) c v hb hs =
     some-spans = unfold spanless valueOf SpansFit in ne-eqb (e .spans) 0 (λ z. omega (arith, v .0 .value .spansFit .0))
 
     strides : stridesRefusal (e .len) ≡ 0
-    strides = unfold valueOf in strides-good (e .len) (v .0 .whole) (v .0 .value .some) (v .0 .value .fits)
+    strides = unfold valueOf in strides-good (e .len) (v .0 .whole, v .0 .value .some, v .0 .value .fits)
 
     body : (x : ℕ) → x ≡ b + e .len → b + e .len < 2 ^ 64 → eqb x (bodyAfter e) ≡ true
     body x q l = unfold bodyAfter in eq-eqb x (bodyAfter e) (q ∙ omega (arith, c .0))

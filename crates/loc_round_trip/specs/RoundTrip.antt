@@ -17,7 +17,7 @@ use Rattle.loc_listing.specs.Listing.{listing}
 use Rattle.loc_parse.specs.Import.{appendListing}
 use Rattle.loc_round_trip.specs.Listings.{AnyEvent, anyIndexAtEnd, anyBookAtEnd, anyAwaits, AllLawful}
 
--- a record that append takes: 8 to 10 do not turn it away
+-- a record that append takes: 8, 22, 9 and 10 do not turn it away
 pub record Storable (r : Rec) : Type 0 where
   pub whole : r .len % 8 ≡ 0
   pub some : 0 < r .len

@@ -2,7 +2,7 @@
 //! Named cases first, then histories of fixed seeds that fit the replay's arrays, up to a size.
 use host::areas::Kind;
 use host::judge::Folder;
-use host::tally::Tally;
+use host::tally::{Tally, NUMBERS};
 use host::tape::Tape;
 use host::{history, named};
 
@@ -16,7 +16,7 @@ struct Sample {
     bytes: Vec<u8>,
     cases: u64,
     answers: u64,
-    numbers: [[u64; 18]; 2],
+    numbers: [[u64; NUMBERS]; 2],
     audits: [[u64; 2]; 2],
 }
 
@@ -34,7 +34,7 @@ impl Sample {
 
     /// Whether the tape has a refusal, or an audit of unsound areas, that the sample lacks.
     fn lacks(&self, kind: Kind, tape: &Tape) -> bool {
-        (1..18).any(|n| tape.numbers[n] > 0 && self.numbers[kind as usize][n] < OF_EACH)
+        (1..NUMBERS).any(|n| tape.numbers[n] > 0 && self.numbers[kind as usize][n] < OF_EACH)
             || tape.audits[0] > 0 && self.audits[kind as usize][0] < OF_EACH
     }
 }
@@ -46,7 +46,8 @@ fn main() {
     };
     let folder = Folder::new();
     let mut tally = Tally::default();
-    let mut sample = Sample { bytes: Vec::new(), cases: 0, answers: 0, numbers: [[0; 18]; 2], audits: [[0; 2]; 2] };
+    let mut sample =
+        Sample { bytes: Vec::new(), cases: 0, answers: 0, numbers: [[0; NUMBERS]; 2], audits: [[0; 2]; 2] };
     named::run(&folder, &mut tally, true, &mut |kind, tape| sample.take(kind, &tape))
         .expect("no difference in a named case");
     // first the refusals, of which few come by chance, then whatever comes
@@ -66,7 +67,7 @@ fn main() {
     println!("{} cases, {} answers, {} bytes", sample.cases, sample.answers, sample.bytes.len());
     for kind in [Kind::Paired, Kind::Single] {
         let list = sample.numbers[kind as usize];
-        let list: Vec<String> = (0..18).filter(|&n| list[n] > 0).map(|n| format!("{n}: {}", list[n])).collect();
+        let list: Vec<String> = (0..NUMBERS).filter(|&n| list[n] > 0).map(|n| format!("{n}: {}", list[n])).collect();
         let [unsound, sound] = sample.audits[kind as usize];
         println!(
             "numbers, {}: {}; audits: {sound} of sound and {unsound} of unsound areas",
