@@ -1,13 +1,16 @@
 -- The bytes of a word, and a word as four lanes of sixteen bits: what masks, sums and shifts do in each lane.
 -- The laws say it of the steps of src/loc_simd.rt, whose two words are a block.
 use mathlib.Core.Path.{_≡_, refl, sym, ap, _∙_}
+use mathlib.Core.Bool.{cond}
 use mathlib.Core.List.{List, [], _∷_, _++_}
 use Prim.Native.Nat.{ℕ, zero, suc, _+_, _-_, _*_, _/_, _%_, _^_, _<_}
 use native.Mathlib.Omega.{arith}
+use lib.Dec.{eqb}
+use lib.Count.{under, trailingZeros}
 use lib.Pow.{shr-shr, low}
 use lib.Bits.{bitAnd, and-lt, and-block, and-mask, and-high, and-shr, and-zero-r}
 use Rattle.loc_leaf.specs.Bytes.{bytes}
-use Rattle.loc_leaf.specs.Block.{firsts, seconds, zeroBit, zeroMask, running, lanesOf}
+use Rattle.loc_leaf.specs.Block.{firsts, seconds, zeroBit, zeroMask, running, lowest, lanesOf}
 
 -- ---- four numbers, one for each record of a word
 
@@ -249,6 +252,20 @@ mask-small w = rw mask-8 (nibble-lt (bits (first w) (second w)))
 pub mask-append : (lo hi : ℕ) → zeroMask (bytes 8 lo) + 16 * zeroMask (bytes 8 hi) ≡ zeroMask (bytes 8 lo ++ bytes 8 hi)
 unfolding zeroMask bytes
 mask-append lo hi = omega arith
+
+-- ---- the lowest record of a mask
+
+-- the first bit is the lowest, or the lowest of those above it, one further up
+lowest-step : (bit z : ℕ) → bit < 2 → under bit z ≡ cond (eqb bit 1) 0 (suc z)
+lowest-step zero z h = refl
+lowest-step (suc zero) z h = refl
+lowest-step (suc (suc bit)) z h = absurd (omega arith)
+
+-- the zeros below it are as many as its number
+pub trailing-lowest : (n m : ℕ) → trailingZeros n m ≡ lowest n m
+unfolding trailingZeros lowest
+trailing-lowest zero m = refl
+trailing-lowest (suc n) m = rw (trailing-lowest n (m / 2)) (lowest-step (m % 2) (lowest n (m / 2)) (omega arith))
 
 -- ---- running sums
 

@@ -8,5 +8,4 @@ pub mod ValueLaws
 pub mod RowLaws
 pub mod RowPrefix
 pub mod Lanes
-pub mod Table
 pub mod Starred

@@ -205,14 +205,6 @@ module _ (lo hi : ℕ) where
   words-are : words-sum ≡ upper * 2 ^ 32 + lower
   words-are = (λ i. word-parts lo i + odd-parts lo i + word-parts hi i + odd-parts hi i) ∙ omega arith
 
-  words-taken : take-2 words-sum ≡ (upper + lower) * 2 ^ 32 + lower
-  words-taken =
-      let p : (upper * 2 ^ 32 + lower) * 2 ^ 32 ≡ upper * 2 ^ 64 + lower * 2 ^ 32 = omega arith in
-      ap take-2 words-are ∙ ap (λ (n : ℕ). upper * 2 ^ 32 + lower + n) (ap (λ (n : ℕ). n % 2 ^ 64) p ∙ low upper 64 (omega arith)) ∙ omega arith
-
-  pub words-fit : take-2 words-sum < 2 ^ 64
-  words-fit = rw words-taken (omega arith)
-
   records-are : upper + lower ≡ total (firsts (bytes 8 lo ++ bytes 8 hi)) + 256 * total (seconds (bytes 8 lo ++ bytes 8 hi))
   records-are =
       (λ i.
@@ -220,8 +212,12 @@ module _ (lo hi : ℕ) where
       + (low-bytes lo i + two-bytes lo 16 i + (low-bytes hi i + two-bytes hi 16 i)))
       ∙ omega arith ∙ sym (λ i. firsts-are i + 256 * seconds-are i)
 
-  pub total-records : take-2 words-sum / 2 ^ 32 ≡ total (firsts (bytes 8 lo ++ bytes 8 hi)) + 256 * total (seconds (bytes 8 lo ++ bytes 8 hi))
-  total-records = ap (λ (n : ℕ). n / 2 ^ 32) words-taken ∙ high (upper + lower) 32 (omega arith) ∙ records-are
+  -- its two lanes
+  pub total-records : words-sum / 2 ^ 32 + bitAnd words-sum 0xffff_ffff ≡ total (firsts (bytes 8 lo ++ bytes 8 hi)) + 256 * total (seconds (bytes 8 lo ++ bytes 8 hi))
+  total-records =
+      let u : words-sum / 2 ^ 32 ≡ upper = ap (λ (n : ℕ). n / 2 ^ 32) words-are ∙ high upper 32 (omega arith) in
+      let l : bitAnd words-sum 0xffff_ffff ≡ lower = and-mask words-sum 32 ∙ ap (λ (n : ℕ). n % 2 ^ 32) words-are ∙ low upper 32 (omega arith) in
+      (λ i. u i + l i) ∙ records-are
 
   pub records-small : total (firsts (bytes 8 lo ++ bytes 8 hi)) + 256 * total (seconds (bytes 8 lo ++ bytes 8 hi)) < 2 ^ 19
   records-small = subst (λ (n : ℕ). n < 2 ^ 19) records-are (omega arith)

@@ -3,7 +3,7 @@
 ghost use mathlib.Core.Path.{_≡_};
 ghost use mathlib.Core.Bool.{true};
 ghost use mathlib.Core.List.{_++_};
-ghost use Prim.Native.Nat.{_+_, _*_, _^_, _<_, _≤_};
+ghost use Prim.Native.Nat.{_+_, _*_, _/_, _^_, _<_, _≤_};
 ghost use lib.ListN.{length, take, drop};
 ghost use Rattle.loc_leaf.specs.declared.Kind.the-variants.{Paired, Single};
 ghost use Rattle.loc_leaf.specs.Bytes.{bytes};
@@ -57,12 +57,12 @@ pub fn second_total(lo: u64, hi: u64) -> u64
     first_total(lo >> 8, hi >> 8)
 }
 
-// The sum of its records' sixteen bits.
+// The sum of its records' sixteen bits: those of each of two lanes, then both lanes.
 pub fn strides_total(lo: u64, hi: u64) -> u64
     ensures { λ r. ⌜ (r ≡ total (firsts (bytes 8 lo ++ bytes 8 hi)) + 256 * total (seconds (bytes 8 lo ++ bytes 8 hi))) × (r < 2 ^ 19) ⌝ }
 {
     let e = (lo & WORDS) + ((lo >> 16) & WORDS) + (hi & WORDS) + ((hi >> 16) & WORDS);
-    (e + (e << 32)) >> 32
+    (e >> 32) + (e & 0xffff_ffff)
 }
 
 // The carry of each of a word's records of which no byte is 0: a byte that is not 0, with 255 added, reaches the bit above it.
@@ -113,4 +113,12 @@ pub fn single_mask(lo: u64, hi: u64) -> u64
     ensures { λ r. ⌜ (r ≡ rowMask Single (bytes 8 lo ++ bytes 8 hi) 0 8) × (r < 256) ⌝ }
 {
     nibble(lo) + 16 * nibble(hi)
+}
+
+// What a mask says of the records after record z: its bits above bit z.
+pub fn mask_after(mask: u64, z: usize) -> u64
+    requires { ⌜ z < 8 ⌝ }
+    ensures { λ r. ⌜ r ≡ mask / 2 ^ (z + 1) ⌝ }
+{
+    mask >> (z as u64 + 1)
 }

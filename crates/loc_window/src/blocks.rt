@@ -7,6 +7,7 @@ ghost use Rattle.loc_window.specs.Window.{BlockReady, BlockStepped, Plai
 use crate::Step;
 use crate::Sums;
 use crate::block::first_total;
+use crate::block::mask_after;
 use crate::block::none_empty;
 use crate::block::none_zero;
 use crate::block::pair_mask;
@@ -83,7 +84,7 @@ fn pair_rows(bytes: &[u8], rows: &[u8], count: usize, first: u64, s: Sums) -> St
         y = y - bytes[2 * j + 1] as u64 + v.spans as u64;
         row += 1;
         j += 1;
-        left = left >> (z as u64 + 1);
+        left = mask_after(left, z);
     }
     Step::Next(Sums {
         strides: x,
@@ -186,7 +187,7 @@ fn single_rows(bytes: &[u8], rows: &[u8], count: usize, first: u64, s: Sums) -> 
         x += v.strides as u64;
         row += 1;
         j += 1;
-        left = left >> (z as u64 + 1);
+        left = mask_after(left, z);
     }
     Step::Next(Sums {
         strides: x,

@@ -3,7 +3,7 @@
 use Prim.Native.Nat.{_/_, _^_}
 use native.Mathlib.Omega.{arith}
 use lib.Bits.{and-le-r}
-use Rattle.loc_window.proofs.BlockLaws.{word-mask, words-fit, total-records, records-small}
+use Rattle.loc_window.proofs.BlockLaws.{word-mask, total-records, records-small}
 use Rattle.loc_window.proofs.block.strides_total.Statement.{statement}
 use Rattle.loc_window.proofs.block.strides_total.Tie as tie
 
@@ -18,7 +18,7 @@ add-e-3 c =
     omega (arith, and-le-r (c .args .lo) word-mask, and-le-r (c .args .lo / 2 ^ 16) word-mask, and-le-r (c .args .hi) word-mask, and-le-r (c .args .hi / 2 ^ 16) word-mask)
 
 add-result : tie.Need-add-result
-add-result c = record { fits = words-fit (c .args .lo) (c .args .hi) }
+add-result c = omega (arith, total-records (c .args .lo) (c .args .hi), records-small (c .args .lo) (c .args .hi))
 
 returns : tie.Need-returns
 returns c =

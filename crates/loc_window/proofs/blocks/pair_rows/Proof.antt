@@ -127,23 +127,20 @@ add-row c = omega (arith, c .before .before .before .before .before .before .fin
 add-j-2 : tie.Need-add-j-2 Inv-loop μ-loop
 add-j-2 c = omega (arith, swap-in _ _ _ _ _ _ _ _ _ _ _ (c .before .before .before .before .before .before .before .before .before .loop .inv .2) (omega (arith, c .before .before .before .before .before .before .before .before .before .loop .inv .0)) (c .before .before .before .before .before .before .before .before .loop-test .taken) (c .before .before .before .before .before .before .before .lowest-record .ensures), c .before .before .before .before .before .before .before .before .before .loop .inv .1, c .before .before .before .before .before .before .before .before .before .before .before .before .before .before .before .before .before .before .before .before .before .before .pre .few)
 
-add-left : tie.Need-add-left Inv-loop μ-loop
-add-left c = omega (arith, swap-in _ _ _ _ _ _ _ _ _ _ _ (c .before .before .before .before .before .before .before .before .before .loop .inv .2) (omega (arith, c .before .before .before .before .before .before .before .before .before .loop .inv .0)) (c .before .before .before .before .before .before .before .before .loop-test .taken) (c .before .before .before .before .before .before .before .lowest-record .ensures), c .before .before .before .before .before .before .before .before .before .loop .inv .0)
-
-shr-left : tie.Need-shr-left Inv-loop μ-loop
-shr-left c = omega (arith, swap-in _ _ _ _ _ _ _ _ _ _ _ (c .before .before .before .before .before .before .before .before .before .loop .inv .2) (omega (arith, c .before .before .before .before .before .before .before .before .before .loop .inv .0)) (c .before .before .before .before .before .before .before .before .loop-test .taken) (c .before .before .before .before .before .before .before .lowest-record .ensures), c .before .before .before .before .before .before .before .before .before .loop .inv .0)
+mask-after-requires : tie.Need-mask-after-requires Inv-loop μ-loop
+mask-after-requires c κs = omega (arith, swap-in _ _ _ _ _ _ _ _ _ _ _ (c .before .before .before .before .before .before .before .before .before .loop .inv .2) (omega (arith, c .before .before .before .before .before .before .before .before .before .loop .inv .0)) (c .before .before .before .before .before .before .before .before .loop-test .taken) (c .before .before .before .before .before .before .before .lowest-record .ensures), c .before .before .before .before .before .before .before .before .before .loop .inv .0)
 
 loop-less : tie.Need-loop-less Inv-loop μ-loop
-loop-less c = omega (arith, swap-in _ _ _ _ _ _ _ _ _ _ _ (c .before .before .before .before .before .before .before .before .before .loop .inv .2) (omega (arith, c .before .before .before .before .before .before .before .before .before .loop .inv .0)) (c .before .before .before .before .before .before .before .before .loop-test .taken) (c .before .before .before .before .before .before .before .lowest-record .ensures), c .before .before .before .before .before .before .before .before .before .loop .inv .1)
+loop-less c = omega (arith, swap-in _ _ _ _ _ _ _ _ _ _ _ (c .before .before .before .before .before .before .before .before .before .before .loop .inv .2) (omega (arith, c .before .before .before .before .before .before .before .before .before .before .loop .inv .0)) (c .before .before .before .before .before .before .before .before .before .loop-test .taken) (c .before .before .before .before .before .before .before .before .lowest-record .ensures), c .before .before .before .before .before .before .before .before .before .before .loop .inv .1)
 
 loop-again : tie.Need-loop-again Inv-loop μ-loop
 loop-again c = (
-  omega (arith, c .before .before .before .before .before .before .before .before .before .loop .inv .0),
-  omega (arith, swap-in _ _ _ _ _ _ _ _ _ _ _ (c .before .before .before .before .before .before .before .before .before .loop .inv .2) (omega (arith, c .before .before .before .before .before .before .before .before .before .loop .inv .0)) (c .before .before .before .before .before .before .before .before .loop-test .taken) (c .before .before .before .before .before .before .before .lowest-record .ensures), c .before .before .before .before .before .before .before .before .before .loop .inv .1),
-  swap-next _ _ _ _ _ _ _ _ _ _ _ (c .before .before .before .before .before .before .before .before .before .loop .inv .2) (omega (arith, c .before .before .before .before .before .before .before .before .before .loop .inv .0)) (c .before .before .before .before .before .before .before .before .loop-test .taken) (c .before .before .before .before .before .before .before .lowest-record .ensures) _ _ _ (c .before .before .before .before .before .before .before .before .before .before .before .before .before .before .before .before .before .before .before .before .before .before .pre .rise) (omega arith) (c .before .before .before .before .before .before .find-row .ensures) (c .before .before .before .before .row-value-at .result) _ _ _ _ _ (omega (arith, c .before .before .before .before .before .before .find-row .ensures .inside, c .before .before .before .before .before .if1 .left)) (c .before .before .before .before .row-value-at .ensures .0) (c .before .before .before .before .row-value-at .ensures .1) (c .before .before .before .before .row-value-at .ensures .2)
-      (omega (arith, swap-holds _ _ _ _ _ _ _ _ _ _ _ (c .before .before .before .before .before .before .before .before .before .loop .inv .2) (omega (arith, c .before .before .before .before .before .before .before .before .before .loop .inv .0)) (c .before .before .before .before .before .before .before .before .loop-test .taken) (c .before .before .before .before .before .before .before .lowest-record .ensures) .0, pair-bytes (now (c .before .before .before .before .before .before .before .before .before .before .before .before .before .before .before .before .before .before .before .before .before .before .args .bytes)) (c .before .before .before .before .before .before .before .before .before .loop .j + c .before .before .before .before .before .before .before .lowest-record .result) .0))
-      (omega (arith, swap-holds _ _ _ _ _ _ _ _ _ _ _ (c .before .before .before .before .before .before .before .before .before .loop .inv .2) (omega (arith, c .before .before .before .before .before .before .before .before .before .loop .inv .0)) (c .before .before .before .before .before .before .before .before .loop-test .taken) (c .before .before .before .before .before .before .before .lowest-record .ensures) .1, pair-bytes (now (c .before .before .before .before .before .before .before .before .before .before .before .before .before .before .before .before .before .before .before .before .before .before .args .bytes)) (c .before .before .before .before .before .before .before .before .before .loop .j + c .before .before .before .before .before .before .before .lowest-record .result) .1))
-      refl refl (omega (arith, swap-in _ _ _ _ _ _ _ _ _ _ _ (c .before .before .before .before .before .before .before .before .before .loop .inv .2) (omega (arith, c .before .before .before .before .before .before .before .before .before .loop .inv .0)) (c .before .before .before .before .before .before .before .before .loop-test .taken) (c .before .before .before .before .before .before .before .lowest-record .ensures), c .before .before .before .before .before .before .before .before .before .loop .inv .1)),
+  omega (arith, c .before .before .before .before .before .before .before .before .before .before .loop .inv .0),
+  omega (arith, swap-in _ _ _ _ _ _ _ _ _ _ _ (c .before .before .before .before .before .before .before .before .before .before .loop .inv .2) (omega (arith, c .before .before .before .before .before .before .before .before .before .before .loop .inv .0)) (c .before .before .before .before .before .before .before .before .before .loop-test .taken) (c .before .before .before .before .before .before .before .before .lowest-record .ensures), c .before .before .before .before .before .before .before .before .before .before .loop .inv .1),
+  swap-next _ _ _ _ _ _ _ _ _ _ _ (c .before .before .before .before .before .before .before .before .before .before .loop .inv .2) (omega (arith, c .before .before .before .before .before .before .before .before .before .before .loop .inv .0)) (c .before .before .before .before .before .before .before .before .before .loop-test .taken) (c .before .before .before .before .before .before .before .before .lowest-record .ensures) _ _ _ (c .before .before .before .before .before .before .before .before .before .before .before .before .before .before .before .before .before .before .before .before .before .before .before .pre .rise) (omega arith) (c .before .before .before .before .before .before .before .find-row .ensures) (c .before .before .before .before .before .row-value-at .result) _ _ _ _ _ (omega (arith, c .before .before .before .before .before .before .before .find-row .ensures .inside, c .before .before .before .before .before .before .if1 .left)) (c .before .before .before .before .before .row-value-at .ensures .0) (c .before .before .before .before .before .row-value-at .ensures .1) (c .before .before .before .before .before .row-value-at .ensures .2)
+      (omega (arith, swap-holds _ _ _ _ _ _ _ _ _ _ _ (c .before .before .before .before .before .before .before .before .before .before .loop .inv .2) (omega (arith, c .before .before .before .before .before .before .before .before .before .before .loop .inv .0)) (c .before .before .before .before .before .before .before .before .before .loop-test .taken) (c .before .before .before .before .before .before .before .before .lowest-record .ensures) .0, pair-bytes (now (c .before .before .before .before .before .before .before .before .before .before .before .before .before .before .before .before .before .before .before .before .before .before .before .args .bytes)) (c .before .before .before .before .before .before .before .before .before .before .loop .j + c .before .before .before .before .before .before .before .before .lowest-record .result) .0))
+      (omega (arith, swap-holds _ _ _ _ _ _ _ _ _ _ _ (c .before .before .before .before .before .before .before .before .before .before .loop .inv .2) (omega (arith, c .before .before .before .before .before .before .before .before .before .before .loop .inv .0)) (c .before .before .before .before .before .before .before .before .before .loop-test .taken) (c .before .before .before .before .before .before .before .before .lowest-record .ensures) .1, pair-bytes (now (c .before .before .before .before .before .before .before .before .before .before .before .before .before .before .before .before .before .before .before .before .before .before .before .args .bytes)) (c .before .before .before .before .before .before .before .before .before .before .loop .j + c .before .before .before .before .before .before .before .before .lowest-record .result) .1))
+      (c .mask-after .ensures) refl (omega (arith, swap-in _ _ _ _ _ _ _ _ _ _ _ (c .before .before .before .before .before .before .before .before .before .before .loop .inv .2) (omega (arith, c .before .before .before .before .before .before .before .before .before .before .loop .inv .0)) (c .before .before .before .before .before .before .before .before .before .loop-test .taken) (c .before .before .before .before .before .before .before .before .lowest-record .ensures), c .before .before .before .before .before .before .before .before .before .before .loop .inv .1)),
 )
 
 add-t15 : tie.Need-add-t15 Inv-loop μ-loop
@@ -194,8 +191,7 @@ pair-rows-spec =
     add-y-3
     add-row
     add-j-2
-    add-left
-    shr-left
+    mask-after-requires
     loop-less
     loop-again
     add-t15

@@ -88,23 +88,20 @@ add-row c = omega (arith, c .before .before .before .find-row .ensures .inside, 
 add-j-2 : tie.Need-add-j-2 Inv-loop μ-loop
 add-j-2 c = omega (arith, swap-in _ _ _ _ _ _ _ _ _ _ _ (c .before .before .before .before .before .before .loop .inv .2) (omega (arith, c .before .before .before .before .before .before .loop .inv .0)) (c .before .before .before .before .before .loop-test .taken) (c .before .before .before .before .lowest-record .ensures), c .before .before .before .before .before .before .loop .inv .1, c .before .before .before .before .before .before .before .before .before .before .before .before .before .before .before .before .before .pre .few)
 
-add-left : tie.Need-add-left Inv-loop μ-loop
-add-left c = omega (arith, swap-in _ _ _ _ _ _ _ _ _ _ _ (c .before .before .before .before .before .before .loop .inv .2) (omega (arith, c .before .before .before .before .before .before .loop .inv .0)) (c .before .before .before .before .before .loop-test .taken) (c .before .before .before .before .lowest-record .ensures), c .before .before .before .before .before .before .loop .inv .0)
-
-shr-left : tie.Need-shr-left Inv-loop μ-loop
-shr-left c = omega (arith, swap-in _ _ _ _ _ _ _ _ _ _ _ (c .before .before .before .before .before .before .loop .inv .2) (omega (arith, c .before .before .before .before .before .before .loop .inv .0)) (c .before .before .before .before .before .loop-test .taken) (c .before .before .before .before .lowest-record .ensures), c .before .before .before .before .before .before .loop .inv .0)
+mask-after-requires : tie.Need-mask-after-requires Inv-loop μ-loop
+mask-after-requires c κs = omega (arith, swap-in _ _ _ _ _ _ _ _ _ _ _ (c .before .before .before .before .before .before .loop .inv .2) (omega (arith, c .before .before .before .before .before .before .loop .inv .0)) (c .before .before .before .before .before .loop-test .taken) (c .before .before .before .before .lowest-record .ensures), c .before .before .before .before .before .before .loop .inv .0)
 
 loop-less : tie.Need-loop-less Inv-loop μ-loop
-loop-less c = omega (arith, swap-in _ _ _ _ _ _ _ _ _ _ _ (c .before .before .before .before .before .before .loop .inv .2) (omega (arith, c .before .before .before .before .before .before .loop .inv .0)) (c .before .before .before .before .before .loop-test .taken) (c .before .before .before .before .lowest-record .ensures), c .before .before .before .before .before .before .loop .inv .1)
+loop-less c = omega (arith, swap-in _ _ _ _ _ _ _ _ _ _ _ (c .before .before .before .before .before .before .before .loop .inv .2) (omega (arith, c .before .before .before .before .before .before .before .loop .inv .0)) (c .before .before .before .before .before .before .loop-test .taken) (c .before .before .before .before .before .lowest-record .ensures), c .before .before .before .before .before .before .before .loop .inv .1)
 
 loop-again : tie.Need-loop-again Inv-loop μ-loop
 loop-again c = (
-  omega (arith, c .before .before .before .before .before .before .loop .inv .0),
-  omega (arith, swap-in _ _ _ _ _ _ _ _ _ _ _ (c .before .before .before .before .before .before .loop .inv .2) (omega (arith, c .before .before .before .before .before .before .loop .inv .0)) (c .before .before .before .before .before .loop-test .taken) (c .before .before .before .before .lowest-record .ensures), c .before .before .before .before .before .before .loop .inv .1),
-  swap-next _ _ _ _ _ _ _ _ _ _ _ (c .before .before .before .before .before .before .loop .inv .2) (omega (arith, c .before .before .before .before .before .before .loop .inv .0)) (c .before .before .before .before .before .loop-test .taken) (c .before .before .before .before .lowest-record .ensures) _ _ _ (c .before .before .before .before .before .before .before .before .before .before .before .before .before .before .before .before .before .pre .rise) (omega arith) (c .before .before .before .find-row .ensures) (c .before .row-value-at .result) _ _ _ _ _ (omega (arith, c .before .before .before .find-row .ensures .inside, c .before .before .if1 .left)) (c .before .row-value-at .ensures .0) (c .before .row-value-at .ensures .1) (c .before .row-value-at .ensures .2)
-      (omega (arith, single-empty (now (c .before .before .before .before .before .before .before .before .before .before .before .before .before .before .before .before .before .args .bytes)) (c .before .before .before .before .before .before .loop .j + c .before .before .before .before .lowest-record .result) (swap-needs _ _ _ _ _ _ _ _ _ _ _ (c .before .before .before .before .before .before .loop .inv .2) (omega (arith, c .before .before .before .before .before .before .loop .inv .0)) (c .before .before .before .before .before .loop-test .taken) (c .before .before .before .before .lowest-record .ensures)) .0))
-      (omega (arith, single-empty (now (c .before .before .before .before .before .before .before .before .before .before .before .before .before .before .before .before .before .args .bytes)) (c .before .before .before .before .before .before .loop .j + c .before .before .before .before .lowest-record .result) (swap-needs _ _ _ _ _ _ _ _ _ _ _ (c .before .before .before .before .before .before .loop .inv .2) (omega (arith, c .before .before .before .before .before .before .loop .inv .0)) (c .before .before .before .before .before .loop-test .taken) (c .before .before .before .before .lowest-record .ensures)) .1, single-spans _ _ (c .before .row-value-at .ensures .0)))
-      refl refl (omega (arith, swap-in _ _ _ _ _ _ _ _ _ _ _ (c .before .before .before .before .before .before .loop .inv .2) (omega (arith, c .before .before .before .before .before .before .loop .inv .0)) (c .before .before .before .before .before .loop-test .taken) (c .before .before .before .before .lowest-record .ensures), c .before .before .before .before .before .before .loop .inv .1)),
+  omega (arith, c .before .before .before .before .before .before .before .loop .inv .0),
+  omega (arith, swap-in _ _ _ _ _ _ _ _ _ _ _ (c .before .before .before .before .before .before .before .loop .inv .2) (omega (arith, c .before .before .before .before .before .before .before .loop .inv .0)) (c .before .before .before .before .before .before .loop-test .taken) (c .before .before .before .before .before .lowest-record .ensures), c .before .before .before .before .before .before .before .loop .inv .1),
+  swap-next _ _ _ _ _ _ _ _ _ _ _ (c .before .before .before .before .before .before .before .loop .inv .2) (omega (arith, c .before .before .before .before .before .before .before .loop .inv .0)) (c .before .before .before .before .before .before .loop-test .taken) (c .before .before .before .before .before .lowest-record .ensures) _ _ _ (c .before .before .before .before .before .before .before .before .before .before .before .before .before .before .before .before .before .before .pre .rise) (omega arith) (c .before .before .before .before .find-row .ensures) (c .before .before .row-value-at .result) _ _ _ _ _ (omega (arith, c .before .before .before .before .find-row .ensures .inside, c .before .before .before .if1 .left)) (c .before .before .row-value-at .ensures .0) (c .before .before .row-value-at .ensures .1) (c .before .before .row-value-at .ensures .2)
+      (omega (arith, single-empty (now (c .before .before .before .before .before .before .before .before .before .before .before .before .before .before .before .before .before .before .args .bytes)) (c .before .before .before .before .before .before .before .loop .j + c .before .before .before .before .before .lowest-record .result) (swap-needs _ _ _ _ _ _ _ _ _ _ _ (c .before .before .before .before .before .before .before .loop .inv .2) (omega (arith, c .before .before .before .before .before .before .before .loop .inv .0)) (c .before .before .before .before .before .before .loop-test .taken) (c .before .before .before .before .before .lowest-record .ensures)) .0))
+      (omega (arith, single-empty (now (c .before .before .before .before .before .before .before .before .before .before .before .before .before .before .before .before .before .before .args .bytes)) (c .before .before .before .before .before .before .before .loop .j + c .before .before .before .before .before .lowest-record .result) (swap-needs _ _ _ _ _ _ _ _ _ _ _ (c .before .before .before .before .before .before .before .loop .inv .2) (omega (arith, c .before .before .before .before .before .before .before .loop .inv .0)) (c .before .before .before .before .before .before .loop-test .taken) (c .before .before .before .before .before .lowest-record .ensures)) .1, single-spans _ _ (c .before .before .row-value-at .ensures .0)))
+      (c .mask-after .ensures) refl (omega (arith, swap-in _ _ _ _ _ _ _ _ _ _ _ (c .before .before .before .before .before .before .before .loop .inv .2) (omega (arith, c .before .before .before .before .before .before .before .loop .inv .0)) (c .before .before .before .before .before .before .loop-test .taken) (c .before .before .before .before .before .lowest-record .ensures), c .before .before .before .before .before .before .before .loop .inv .1)),
 )
 
 add-t14 : tie.Need-add-t14 Inv-loop μ-loop
@@ -142,8 +139,7 @@ single-rows-spec =
     add-x-2
     add-row
     add-j-2
-    add-left
-    shr-left
+    mask-after-requires
     loop-less
     loop-again
     add-t14
