@@ -97,6 +97,10 @@ def refusal(text):
         if record[4] != 8 * record[5]:
             return 20, []
         records.append(record)
+    if records and records[0][1] != 16:
+        return 23, []
+    if records and records[0][3] != 16:
+        return 24, []
     for record, after in zip(records, records[1:] + [None]):
         _, start, length, span, span_len, spans = record
         if spans == 0:

@@ -1,5 +1,5 @@
 /* README's example, compiled as C and as C++ against the archive: two records are created, appended, opened, read and audited.
- * Prints what differs from document 01's listing. Then a span by its address, a third record from a listing, and bodies that
+ * Prints what differs from document 01's listing. Then a span by its address, a third record from a listing, and batches that
  * are refused; lists of length 0 are NULL. */
 #include "gurwynell.h"
 #include <stdio.h>
@@ -53,6 +53,9 @@ int main(void)
     const uint64_t after[] = {2112}, none[] = {0}, ragged[] = {12}, span_after[] = {64};
     expect("an empty body", create_loc_append(slots, 64, rows, 64, checkpoints, 64, after, 1, none, 1, span_after, 1, spans, 1, &value), GURWYNELL_BODY_EMPTY);
     expect("a ragged body", create_loc_append(slots, 64, rows, 64, checkpoints, 64, after, 1, ragged, 1, span_after, 1, spans, 1, &value), GURWYNELL_LENGTH_NOT_PADDED);
+    const uint64_t inside[] = {2104}, stride[] = {8}, span_inside[] = {48};
+    expect("a body inside the list", create_loc_append(slots, 64, rows, 64, checkpoints, 64, inside, 1, stride, 1, span_after, 1, spans, 1, &value), GURWYNELL_BODY_NOT_AT_END);
+    expect("spans inside the list", create_loc_append(slots, 64, rows, 64, checkpoints, 64, after, 1, stride, 1, span_inside, 1, spans, 1, &value), GURWYNELL_SPANS_NOT_AT_END);
     expect("an empty batch", create_loc_append(slots, 64, rows, 64, checkpoints, 64, NULL, 0, NULL, 0, NULL, 0, NULL, 0, &value), GURWYNELL_ACCEPTED);
     expect("an empty reading", delta_loc_read(NULL, 0, NULL, 0, NULL, 0, NULL, 0, NULL, 0, &value), GURWYNELL_AREA_TOO_SMALL);
     expect("a refusal's value", value, 0);

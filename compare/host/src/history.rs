@@ -1,6 +1,7 @@
 //! Random histories: a start, sound or damaged, and then calls of every sort, torn ones among them.
 //! A seed gives one history, the kind included.
-use crate::areas::{self, empty, Areas, Kind};
+use crate::areas::{self, counted, empty, put, Areas, Kind, CHECKPOINTS};
+use crate::carry::{self, Starts};
 use crate::damage::damage;
 use crate::judge::{Batch, Folder};
 use crate::pick::Pick;
@@ -15,7 +16,7 @@ pub struct Style {
     rows_one_in: u64,
     /// A record that is refused comes once in so many batches.
     wrong_one_in: u64,
-    /// Starts near 2^64, where sums saturate.
+    /// Windows that start near 2^64, where sums saturate.
     far: bool,
     /// Many records in a row are alike.
     alike: bool,
@@ -116,10 +117,7 @@ fn go(trial: &mut Trial, pick: &mut Pick) -> Outcome<()> {
 /// A reading stores nothing, and lists that differ are no call of the original's.
 fn tearable(trial: &Trial, call: &Call) -> bool {
     match call {
-        Call::Append(b) => {
-            let n = b.starts.len();
-            trial.kind == Kind::Single || n == b.lens.len() && n == b.span_starts.len() && n == b.spans.len()
-        }
+        Call::Append(b) => trial.kind == Kind::Single || !b.uneven(trial.kind),
         Call::Read(_) => false,
         _ => true,
     }
@@ -131,7 +129,7 @@ fn opened(trial: &mut Trial, pick: &mut Pick) -> Outcome<bool> {
         let areas = trial.areas.clone();
         let style = Style::any(pick);
         let call = match pick.below(3) {
-            0 => Call::Append(batch(trial.kind, &style, pick, 3, (16, 16))),
+            0 => any_append(trial, &style, pick, 3),
             1 => Call::Truncate(pick.below(3)),
             _ => Call::Read(vec![1, pick.below(4)]),
         };
@@ -156,8 +154,7 @@ fn any_call(trial: &Trial, style: &Style, pick: &mut Pick) -> Call {
     match pick.below(20) {
         0..=7 => {
             let n = batch_size(trial, pick);
-            let ends = if pick.one_in(4) { far_or_any(style, pick) } else { ends(trial, count) };
-            Call::Append(batch(trial.kind, style, pick, n, ends))
+            any_append(trial, style, pick, n)
         }
         8..=11 => Call::Truncate(truncation(count, pick)),
         12..=18 => Call::Read(wanted(count, pick)),
@@ -165,21 +162,22 @@ fn any_call(trial: &Trial, style: &Style, pick: &mut Pick) -> Call {
     }
 }
 
-pub fn far_or_any(style: &Style, pick: &mut Pick) -> (u64, u64) {
-    let far = |pick: &mut Pick| u64::MAX - pick.below(1 << 18);
+fn any_append(trial: &Trial, style: &Style, pick: &mut Pick, n: usize) -> Call {
+    let starts = carry::starts(trial.kind, &trial.areas, areas::count(&trial.areas), style, pick);
+    Call::Append(batch(trial.kind, style, pick, n, starts))
+}
+
+/// So near to 2^64 that the sums of a window's records pass it, or just do not.
+fn far(pick: &mut Pick) -> u64 {
+    let bits = pick.of(&[6, 12, 18, 21]);
+    u64::MAX - pick.below(1 << bits)
+}
+
+pub fn far_or_any(style: &Style, pick: &mut Pick) -> Starts {
     if style.far {
         (far(pick), far(pick))
     } else {
         (pick.word(), 8 * pick.below(1 << 40))
-    }
-}
-
-/// Where the last record ends, by the original's own answer; 16 where there is none.
-fn ends(trial: &Trial, count: u64) -> (u64, u64) {
-    match trial.judge.as_ref().map(|judge| judge.read(&[count])) {
-        Some(Ok((1, w))) if trial.kind == Kind::Paired => (w[1].saturating_add(w[2]), w[3].saturating_add(w[4])),
-        Some(Ok((1, w))) => (w[1].saturating_add(w[2]), 16),
-        _ => (16, 16),
     }
 }
 
@@ -204,9 +202,9 @@ fn batch_size(trial: &Trial, pick: &mut Pick) -> usize {
 }
 
 /// Records in a row from the given starts; at times one that is refused.
-pub fn batch(kind: Kind, style: &Style, pick: &mut Pick, n: usize, ends: (u64, u64)) -> Batch {
+pub fn batch(kind: Kind, style: &Style, pick: &mut Pick, n: usize, starts: Starts) -> Batch {
     let mut b = Batch::default();
-    let (mut start, mut span_start) = ends;
+    let (mut start, mut span_start) = starts;
     let (mut strides, mut spans) = record(kind, style, pick);
     for _ in 0..n {
         if !style.alike || pick.one_in(100) {
@@ -346,15 +344,17 @@ fn sizes(kind: Kind, pick: &mut Pick) -> [usize; 3] {
     ]
 }
 
-/// A sound index of some size, with room behind what it publishes. The port's append makes it: a way to inputs, no judge.
+/// An index of some size, sound unless its windows start far off, with room behind what it publishes. The port's append makes it: a way to inputs, no judge.
 pub fn composed(kind: Kind, style: &Style, pick: &mut Pick) -> Areas {
     let widths = kind.widths();
     let any = pick.size(60);
-    let records =
-        pick.of(&[any, any, any, 0, 1, 7, 8, 9, 300, 1022, 1023, 1024, 1025, 1030, 2047, 2048, 2049, 3072, 3080]);
+    let records = if style.far {
+        pick.of(&[1024, 1025, 1026, 1030, 1100, 2047, 2048, 2049, 3072, 3080])
+    } else {
+        pick.of(&[any, any, any, 0, 1, 7, 8, 9, 300, 1022, 1023, 1024, 1025, 1030, 2047, 2048, 2049, 3072, 3080])
+    };
     let steady = Style { wrong_one_in: u64::MAX, ..*style };
-    let ends = if style.far { far_or_any(style, pick) } else { (16, 16) };
-    let b = batch(kind, &steady, pick, records, ends);
+    let b = batch(kind, &steady, pick, records, carry::FIRST);
     let rooms = [pick.size(40), pick.size(6), pick.size(3)];
     let mut areas = empty([
         16 + widths[0] * (records + rooms[0]),
@@ -363,8 +363,13 @@ pub fn composed(kind: Kind, style: &Style, pick: &mut Pick) -> Areas {
     ]);
     let answer = port::append(kind, &mut areas, &b);
     assert_eq!(answer, (0, records as u64), "a sound batch on empty areas");
+    if style.far {
+        for at in (16..counted(&areas[CHECKPOINTS]) as usize).step_by(8) {
+            put(&mut areas[CHECKPOINTS], at, &far(pick).to_le_bytes());
+        }
+    }
     for place in 0..3 {
-        let end = areas::counted(&areas[place]) as usize;
+        let end = counted(&areas[place]) as usize;
         areas[place].truncate((end + widths[place] * rooms[place]).max(16));
     }
     if records > 0 && pick.one_in(4) {

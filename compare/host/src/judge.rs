@@ -1,6 +1,7 @@
 //! The original on its files, in a folder of a memory file system.
 //! Its refusals are turned into the table's numbers by their messages.
 use crate::areas::{Areas, Kind};
+use crate::carry::Starts;
 use original::create_loc::{CreateLoc, CreateLocAppend};
 use original::delta_loc::DeltaLoc;
 use original::error::StoreError;
@@ -15,6 +16,23 @@ pub struct Batch {
     pub lens: Vec<u64>,
     pub span_starts: Vec<u64>,
     pub spans: Vec<u32>,
+}
+
+impl Batch {
+    /// One record whose body and spans start here.
+    pub fn one(kind: Kind, (start, span_start): Starts, len: u64, spans: u32) -> Batch {
+        let (span_starts, spans) = match kind {
+            Kind::Paired => (vec![span_start], vec![spans]),
+            Kind::Single => (Vec::new(), Vec::new()),
+        };
+        Batch { starts: vec![start], lens: vec![len], span_starts, spans }
+    }
+
+    /// Whether its lists differ in length.
+    pub fn uneven(&self, kind: Kind) -> bool {
+        let n = self.starts.len();
+        n != self.lens.len() || kind == Kind::Paired && (n != self.span_starts.len() || n != self.spans.len())
+    }
 }
 
 /// A refusal of the original: the number, or what it said where the table has none for it.
@@ -208,6 +226,12 @@ impl Folder {
         for (file, area) in self.files(kind).iter().zip(areas) {
             std::fs::write(file, area).expect("write of a file");
         }
+    }
+
+    /// The original on these areas, where they are settled.
+    pub fn settled(&self, kind: Kind, areas: &Areas) -> Option<Judge> {
+        self.put(kind, areas);
+        Judge::settled(kind, &self.dir)
     }
 
     pub fn get(&self, kind: Kind) -> Areas {

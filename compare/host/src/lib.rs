@@ -3,6 +3,7 @@
 
 pub mod areas;
 pub mod audit;
+pub mod carry;
 pub mod damage;
 pub mod history;
 pub mod judge;

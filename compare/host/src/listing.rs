@@ -1,9 +1,10 @@
 //! Listings read back into a paired index, which the original does not do: a reader in plain Rust says what a text is.
-//! What it refuses the port refuses with the same number; of the rest the port's append of the batch shows what is stored, at every place.
+//! What it refuses the port refuses with the same number, and what does not carry on too; of the rest the port's append of the batch shows what is stored, at every place.
 use crate::areas::{self, empty, Areas, Kind};
+use crate::carry;
 use crate::damage::damage;
-use crate::history::{batch, composed, far_or_any, Style};
-use crate::judge::Batch;
+use crate::history::{batch, composed, Style};
+use crate::judge::{Batch, Folder};
 use crate::pick::Pick;
 use crate::port;
 use crate::tally::Tally;
@@ -64,11 +65,11 @@ fn decimal(word: &str) -> Option<u64> {
 }
 
 /// What follows the names line, and the number that an empty index with room for two records, one row and no checkpoint gives.
-const NAMED: [(&str, u64); 36] = [
+const NAMED: [(&str, u64); 46] = [
     ("", 0),
     ("1 16 40 16 24 3\n", 0),
     ("1 16 40 16 24 3\n2 56 2048 40 8 1\n", 0),
-    ("1 0 8 18446744073709551615 34359738360 4294967295\n", 0),
+    ("1 16 8 16 34359738360 4294967295\n", 0),
     ("1 16 40 16 24 3", 18),
     ("1 16 40 16 24 3\r\n", 18),
     ("1 16 40 16 24\n", 18),
@@ -93,6 +94,16 @@ const NAMED: [(&str, u64); 36] = [
     ("2 16 40 16 25 3\n", 19),
     ("1 16 40 16 25 3\n2 56 02048 40 8 1\n", 20),
     ("1 16 0 16 0 0\n2 56 2048 40 9 1\n", 20),
+    ("2 24 40 24 24 3\n", 19),
+    ("1 24 40 24 25 3\n", 20),
+    ("1 0 8 18446744073709551615 34359738360 4294967295\n", 23),
+    ("1 24 40 16 24 3\n", 23),
+    ("1 24 40 24 24 3\n", 23),
+    ("1 24 0 24 0 0\n", 23),
+    ("1 24 40 16 24 3\n2 57 2048 41 8 1\n3 2104 8 48 8 1\n", 23),
+    ("1 16 40 24 24 3\n", 24),
+    ("1 16 0 24 0 0\n", 24),
+    ("1 16 8 18446744073709551615 34359738360 4294967295\n", 24),
     ("1 16 0 16 0 0\n", 8),
     ("1 16 0 16 8 1\n", 22),
     ("1 16 7 16 8 1\n", 9),
@@ -104,11 +115,11 @@ const NAMED: [(&str, u64); 36] = [
 ];
 
 /// Texts with the numbers that the rules give them.
-pub fn named(tally: &mut Tally) -> Result<u64, (String, Vec<String>)> {
+pub fn named(folder: &Folder, tally: &mut Tally) -> Result<u64, (String, Vec<String>)> {
     let areas = empty([20, 32, 16]);
     for (lines, number) in NAMED {
         let wrong = |message: String| (format!("named listing: {message}"), vec![format!("{lines:?}")]);
-        let states = check(&areas, format!("{NAMES}{lines}").as_bytes(), tally).map_err(wrong)?;
+        let states = check(&areas, format!("{NAMES}{lines}").as_bytes(), folder, tally).map_err(wrong)?;
         let (answer, _) = states[0];
         if answer.0 != number {
             return Err(wrong(format!("port {}, the rules {number}", answer.0)));
@@ -121,12 +132,12 @@ pub fn named(tally: &mut Tally) -> Result<u64, (String, Vec<String>)> {
 const TEXTS: usize = 8;
 
 /// The listings of a seed: an index, and texts that are right or spoilt.
-pub fn run(seed: u64, tally: &mut Tally) -> Result<(), (String, Vec<String>)> {
+pub fn run(seed: u64, folder: &Folder, tally: &mut Tally) -> Result<(), (String, Vec<String>)> {
     let mut steps = Vec::new();
-    go(&mut Pick::new(seed), tally, &mut steps).map_err(|message| (format!("listing: {message}"), steps))
+    go(&mut Pick::new(seed), folder, tally, &mut steps).map_err(|message| (format!("listing: {message}"), steps))
 }
 
-fn go(pick: &mut Pick, tally: &mut Tally, steps: &mut Vec<String>) -> Outcome<()> {
+fn go(pick: &mut Pick, folder: &Folder, tally: &mut Tally, steps: &mut Vec<String>) -> Outcome<()> {
     let style = Style::any(pick);
     let mut areas = index(&style, pick, steps);
     for _ in 0..TEXTS {
@@ -138,7 +149,7 @@ fn go(pick: &mut Pick, tally: &mut Tally, steps: &mut Vec<String>) -> Outcome<()
         // what stands in memory behind a text is no part of it
         let n = text.len();
         text.extend_from_slice(pick.of(&["\n", "1\n", " 1\n"]).as_bytes());
-        let mut states = check(&areas, &text[..n], tally)?;
+        let mut states = check(&areas, &text[..n], folder, tally)?;
         if pick.one_in(3) {
             let k = pick.size(states.len());
             steps.push(format!("on from call {k}"));
@@ -195,13 +206,8 @@ fn records(areas: &Areas, count: u64, style: &Style, pick: &mut Pick) -> Batch {
     } else {
         pick.of(&[0, 1, 1, 2, 2, 3, 8, any])
     };
-    let mut w = [0; 6];
-    let ends = match port::read(Kind::Paired, areas, &[count], &mut w) {
-        (0, 1) if !pick.one_in(4) => (w[1].saturating_add(w[2]), w[3].saturating_add(w[4])),
-        _ if pick.one_in(2) => far_or_any(style, pick),
-        _ => (16, 16),
-    };
-    let mut b = batch(Kind::Paired, style, pick, n, ends);
+    let starts = carry::starts(Kind::Paired, areas, count, style, pick);
+    let mut b = batch(Kind::Paired, style, pick, n, starts);
     let whole = b.starts.len().min(b.lens.len()).min(b.span_starts.len()).min(b.spans.len());
     b.starts.truncate(whole);
     b.lens.truncate(whole);
@@ -344,11 +350,21 @@ fn spoil_words(sort: u64, words: &mut Vec<String>, pick: &mut Pick) -> &'static 
 /// The numbers of places, and the call that makes all.
 const CALLS: [Option<u64>; 8] = [Some(0), Some(1), Some(2), Some(3), Some(4), Some(5), Some(u64::MAX), None];
 
+/// What a text says to these areas: a batch for append to look at record by record, or the number of its refusal.
+fn said(areas: &Areas, text: &[u8], folder: &Folder) -> Outcome<Result<Batch, u64>> {
+    if areas.iter().any(|area| area.len() < 16) {
+        return Ok(Err(1));
+    }
+    let Some(judge) = folder.settled(Kind::Paired, areas) else { return Ok(Err(6)) };
+    Ok(match read(text, judge.count()) {
+        Ok(b) => carry::refusal(Kind::Paired, &judge, &b)?.map_or(Ok(b), Err),
+        refused => refused,
+    })
+}
+
 /// Every call with a text on these areas: number, value and all bytes are those that the reader's answer gives.
-fn check(areas: &Areas, text: &[u8], tally: &mut Tally) -> Outcome<Vec<(port::Answer, Areas)>> {
-    // 1 and 6 come first, as the append of an empty batch has them
-    let first = port::append(Kind::Paired, &mut areas.clone(), &Batch::default()).0;
-    let said = if first == 0 { read(text, areas::count(areas)) } else { Err(first) };
+fn check(areas: &Areas, text: &[u8], folder: &Folder, tally: &mut Tally) -> Outcome<Vec<(port::Answer, Areas)>> {
+    let said = said(areas, text, folder)?;
     let mut states = Vec::new();
     for places in CALLS {
         let (mut mine, mut theirs) = (areas.clone(), areas.clone());

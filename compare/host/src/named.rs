@@ -1,5 +1,5 @@
-//! Cases that document 01 names with their values, on both sides, and the order of refusals in a record.
-//! Its starred ones are proved; those here are the ones that it leaves to this program, and their neighbours.
+//! Cases that document 01 names with their values, on both sides, the order of refusals in a record, and where a batch has to begin.
+//! Document 01's starred ones are proved; those here are the ones that it leaves to this program, and their neighbours.
 use crate::areas::{empty, put, row, store_len, Areas, Kind, CHECKPOINTS, ROWS, SLOTS};
 use crate::judge::{Batch, Folder};
 use crate::port;
@@ -98,7 +98,11 @@ pub fn run(
             case(kind, name, empty([18, 32, 16]), &|trial| one_record(trial, strides, spans, slot, rows))?;
         }
         for (name, lens, spans, number) in refused(kind) {
-            case(kind, name, empty([20, 16, 16]), &|trial| two_records(trial, lens, spans, number))?;
+            let two = batch(kind, &[16, 0], &lens, &spans);
+            case(kind, name, empty([20, 16, 16]), &|trial| appended(trial, &two, number))?;
+        }
+        for (name, areas, batch, number) in beginnings(kind) {
+            case(kind, name, areas, &|trial| appended(trial, &batch, number))?;
         }
     }
     Ok(cases)
@@ -171,12 +175,93 @@ fn refused(kind: Kind) -> Vec<Refused> {
     list
 }
 
-fn two_records(trial: &mut Trial, lens: [u64; 2], spans: [u32; 2], number: u64) -> Outcome<()> {
+type Beginning = (&'static str, Areas, Batch, u64);
+
+/// A name, areas, a batch and the number. Where nothing else is said the batch is a record of 8 bytes with one span, and there is room.
+fn beginnings(kind: Kind) -> Vec<Beginning> {
+    const LAST: u64 = u64::MAX;
+    let width = if kind == Kind::Paired { 8 } else { 8 * 257 };
+    let both = |start| (start, start);
+    let end = |records| both(16 + width * records);
+    let at = |starts| Batch::one(kind, starts, 8, 1);
+    let of = |starts, len, spans| Batch::one(kind, starts, len, spans);
+    let two_lens = |starts| Batch { lens: vec![8, 8], ..at(starts) };
+    let plain = |records| roomy(kind, areas(kind, records, 0, &[], 0));
+    let none = plain(0);
+    let two = plain(2);
+    let second_lacks = slot(two.clone(), 2, [0, 0]);
+    // one checkpoint, with this start of the second window
+    let window = |records, checkpoint| second_window(kind, areas(kind, records, 1, &[], 0), checkpoint);
+    let wrong = window(1024, 5000);
+    let after_wrong = window(1025, 5000);
+    let past = window(1025, LAST - 3);
+    let third_lacks = |records| slot(window(records, end(1024).0), 3, [0, 0]);
+    let earlier_lacks = third_lacks(1025);
+    let mut list = vec![
+        ("record 1 at 16", none.clone(), at(both(16)), 0),
+        ("record 1 at 24", none.clone(), at((24, 16)), 23),
+        ("record 1 at 24, spans too", none.clone(), at(both(24)), 23),
+        ("record 3 where record 2 ends", two.clone(), at(end(2)), 0),
+        ("record 3 at 16", two.clone(), at(both(16)), 23),
+        ("1,024 records, the checkpoint behind them wrong", wrong.clone(), at(end(1024)), 0),
+        ("the same at the checkpoint", wrong.clone(), at(both(5000)), 23),
+        ("1,025 records, the checkpoint before the last wrong", after_wrong.clone(), at(both(5000 + width)), 0),
+        ("the same where the lengths add up to", after_wrong.clone(), at(end(1025)), 23),
+        ("a last record that ends past 2^64", past.clone(), at(both(LAST)), 0),
+        ("the same at its end less 2^64", past.clone(), at(both(width - 4)), 23),
+        ("the last record lacks its row", second_lacks.clone(), at(end(2)), 17),
+        ("the same at 24", second_lacks.clone(), at(both(24)), 17),
+        ("the same with an empty body", second_lacks.clone(), of(end(2), 0, 1), 17),
+        ("the same with two lengths", second_lacks.clone(), two_lens(end(2)), 7),
+        ("the same with no record", second_lacks, Batch::default(), 0),
+        ("record 3 of 20 lacks its row", slot(plain(20), 3, [0, 0]), at(end(20)), 17),
+        ("record 3 of 1,024 lacks its row", third_lacks(1024), at(end(1024)), 17),
+        ("record 3 of 1,025 lacks its row", earlier_lacks.clone(), at(end(1025)), 0),
+        ("the same at 16", earlier_lacks.clone(), at(both(16)), 23),
+        ("two lengths at 24", none.clone(), two_lens(both(24)), 7),
+        ("no start and one length", none.clone(), Batch { starts: Vec::new(), ..at(both(16)) }, 7),
+        ("an empty body without spans at 24", none.clone(), of((24, 16), 0, 0), 23),
+        ("a body of 12 bytes at 24", none.clone(), of((24, 16), 12, 1), 23),
+        ("two bodies at 24, the second elsewhere", none.clone(), batch(kind, &[24, 0], &[8, 8], &[1, 1]), 23),
+        ("no room", areas(kind, 2, 0, &[], 0), at(end(2)), 13),
+        ("no room at 24", areas(kind, 2, 0, &[], 0), at(both(24)), 23),
+    ];
+    if kind == Kind::Paired {
+        list.extend([
+            ("record 1 at 16, spans at 24", none.clone(), at((16, 24)), 24),
+            ("the same without spans", none.clone(), of((16, 24), 8, 0), 24),
+            ("the same with an empty body", none, of((16, 24), 0, 1), 24),
+            ("record 3 where record 2 ends, spans at 16", two, at((end(2).0, 16)), 24),
+            ("1,024 records, spans at the wrong checkpoint", wrong, at((end(1024).0, 5000)), 24),
+            ("1,025 records, spans where the counts add up to", after_wrong, at((5000 + width, end(1025).1)), 24),
+            ("spans that end past 2^64, less 2^64", past, at((LAST, width - 4)), 24),
+            ("record 3 of 1,025 lacks its row, spans at 16", earlier_lacks, at((end(1025).0, 16)), 24),
+        ]);
+    }
+    list
+}
+
+/// The same with room for two records more.
+fn roomy(kind: Kind, mut areas: Areas) -> Areas {
+    for (area, width) in areas.iter_mut().zip(kind.widths()) {
+        area.resize(area.len() + 2 * width, 0);
+    }
+    areas
+}
+
+/// The same with this start of the second window in all of its only checkpoint, and room.
+fn second_window(kind: Kind, mut areas: Areas, start: u64) -> Areas {
+    for word in areas[CHECKPOINTS][16..].chunks_mut(8) {
+        word.copy_from_slice(&start.to_le_bytes());
+    }
+    roomy(kind, areas)
+}
+
+fn appended(trial: &mut Trial, batch: &Batch, number: u64) -> Outcome<()> {
     trial.call(&Call::Open)?;
-    let batch = batch(trial.kind, &[16, 0], &lens, &spans);
-    let (given, _) = port::append(trial.kind, &mut trial.areas.clone(), &batch);
+    let (given, _) = port::append(trial.kind, &mut trial.areas.clone(), batch);
     if given != number {
         return Err(format!("port {given}, the table {number}"));
     }
-    trial.call(&Call::Append(batch)).map(|_| ())
+    trial.call(&Call::Append(batch.clone())).map(|_| ())
 }

@@ -3,7 +3,7 @@
 use crate::areas::{pieces, put, row, Areas, Kind, CHECKPOINTS, ROWS};
 use crate::damage;
 use crate::history::Style;
-use crate::judge::{Folder, Judge, Refusal};
+use crate::judge::{Folder, Refusal};
 use crate::listing::index;
 use crate::named;
 use crate::pick::Pick;
@@ -20,8 +20,7 @@ fn read(areas: &Areas, folder: &Folder) -> Outcome<Result<Vec<Spans>, u64>> {
     if areas.iter().any(|area| area.len() < 16) {
         return Ok(Err(1));
     }
-    folder.put(Kind::Paired, areas);
-    let Some(judge) = Judge::settled(Kind::Paired, folder.dir()) else { return Ok(Err(6)) };
+    let Some(judge) = folder.settled(Kind::Paired, areas) else { return Ok(Err(6)) };
     let all: Vec<u64> = (1..=judge.count()).collect();
     match judge.read(&all) {
         Ok((_, words)) => Ok(Ok(words.chunks(Kind::Paired.words()).map(|w| (w[3], w[5])).collect())),

@@ -1,7 +1,8 @@
 //! Small worlds in full: every combination of a few lengths, slots and rows around the rules' limits.
 //! Random histories seldom meet these all; here none is left out.
-use crate::areas::{empty, put, row, store_len, Areas, Kind, CHECKPOINTS, ROWS, SLOTS};
-use crate::judge::Folder;
+use crate::areas::{count, empty, put, row, store_len, Areas, Kind, CHECKPOINTS, ROWS, SLOTS};
+use crate::carry;
+use crate::judge::{Batch, Folder};
 use crate::pick::Pick;
 use crate::tally::Tally;
 use crate::trial::{Call, Outcome, Trial};
@@ -36,6 +37,20 @@ fn open_and_read(trial: &mut Trial, wanted: &[u64]) -> Outcome<()> {
             trial.call(&Call::Read(vec![id]))?;
         }
         trial.call(&Call::Read(wanted.to_vec()))?;
+        appends(trial)?;
+    }
+    Ok(())
+}
+
+/// No record; then one whose body, spans or both start elsewhere, and one that carries on, which the areas may have no room for.
+fn appends(trial: &mut Trial) -> Outcome<()> {
+    let (body, span) = carry::ends(trial.kind, &trial.areas, count(&trial.areas));
+    trial.call(&Call::Append(Batch::default()))?;
+    for (by, span_by) in [(8, 0), (8, 8), (0, 8), (0, 0)] {
+        let starts = (body.wrapping_add(by), span.wrapping_add(span_by));
+        if trial.kind == Kind::Paired || by == span_by {
+            trial.call(&Call::Append(Batch::one(trial.kind, starts, 8, 1)))?;
+        }
     }
     Ok(())
 }

@@ -27,12 +27,12 @@ pub const WHATS: [(What, &str); 8] = [
 ];
 
 /// 0 and the numbers of the table.
-pub const NUMBERS: usize = 23;
+pub const NUMBERS: usize = 25;
 
 #[derive(Default)]
 pub struct Tally {
-    calls: [[u64; 8]; 2],
-    numbers: [[u64; NUMBERS]; 2],
+    /// How often each number came from each call, by kind.
+    numbers: [[[u64; NUMBERS]; 8]; 2],
     /// Openings that stored a length.
     pub repairs: u64,
     /// States that a cut of the original left, all compared.
@@ -50,17 +50,25 @@ pub struct Tally {
 }
 
 /// What the calls that the original has can give.
-const OF_A_CALL: [usize; 19] = [0, 1, 2, 3, 4, 5, 6, 7, 8, 9, 10, 11, 12, 13, 14, 15, 16, 17, 22];
+const OF_A_CALL: [usize; 21] = [0, 1, 2, 3, 4, 5, 6, 7, 8, 9, 10, 11, 12, 13, 14, 15, 16, 17, 22, 23, 24];
+
+/// What no call of a single index gives: it has no spans.
+const OF_SPANS: [usize; 3] = [8, 12, 24];
 
 /// What a listing's calls can give: all but the lists that differ, and what other calls refuse.
-const OF_A_LISTING: [usize; 13] = [0, 1, 6, 8, 9, 10, 11, 12, 13, 18, 19, 20, 22];
+const OF_A_LISTING: [usize; 16] = [0, 1, 6, 8, 9, 10, 11, 12, 13, 17, 18, 19, 20, 22, 23, 24];
 
 /// What a search for an address can give.
 const OF_AN_ADDRESS: [usize; 5] = [0, 1, 6, 17, 21];
 
-/// Refusals that document 01 adds: the port's alone, so there is nothing to compare but that they come where it says.
-pub fn added(kind: Kind, number: u64) -> bool {
-    matches!(number, 1 | 6 | 13 | 15 | 16) || kind == Kind::Paired && number == 7
+/// Refusals that the documents add: the port's alone, so there is nothing to compare but that they come where these say.
+fn added(kind: Kind, what: What, number: usize) -> bool {
+    match number {
+        1 | 6 | 13 | 15 | 16 | 23 | 24 => true,
+        7 => kind == Kind::Paired,
+        17 => matches!(what, What::Append | What::TornAppend),
+        _ => false,
+    }
 }
 
 /// How often each of these numbers came.
@@ -71,10 +79,7 @@ fn each(numbers: &[usize], counts: &[u64]) -> String {
 
 impl Tally {
     pub fn note(&mut self, kind: Kind, what: What, number: u64) {
-        if !added(kind, number) {
-            self.calls[kind as usize][what as usize] += 1;
-        }
-        self.numbers[kind as usize][number as usize] += 1;
+        self.numbers[kind as usize][what as usize][number as usize] += 1;
     }
 
     pub fn note_listing(&mut self, number: u64) {
@@ -86,12 +91,28 @@ impl Tally {
         self.inner += u64::from(index != 0 && remainder != 0);
     }
 
-    pub fn compared(&self) -> u64 {
-        self.calls.iter().flatten().sum()
+    /// Calls whose number is the original's.
+    fn calls(&self, kind: Kind, what: What) -> u64 {
+        let counts = &self.numbers[kind as usize][what as usize];
+        (0..NUMBERS).filter(|&n| !added(kind, what, n)).map(|n| counts[n]).sum()
+    }
+
+    fn compared(&self) -> u64 {
+        [Kind::Paired, Kind::Single].iter().flat_map(|&kind| WHATS.map(|(what, _)| self.calls(kind, what))).sum()
     }
 
     fn all(&self) -> u64 {
-        self.numbers.iter().flatten().sum()
+        self.numbers.iter().flatten().flatten().sum()
+    }
+
+    /// How often a number came, whatever the call.
+    fn came(&self, kind: Kind, number: usize) -> u64 {
+        self.numbers[kind as usize].iter().map(|counts| counts[number]).sum()
+    }
+
+    /// How often the last record could not be read for an append.
+    fn unreadable(&self, kind: Kind) -> u64 {
+        [What::Append, What::TornAppend].iter().map(|&what| self.numbers[kind as usize][what as usize][17]).sum()
     }
 
     /// Numbers and calls that this comparison is meant to meet and has not.
@@ -99,13 +120,16 @@ impl Tally {
         let mut list = Vec::new();
         for kind in [Kind::Paired, Kind::Single] {
             for number in OF_A_CALL {
-                let never = kind == Kind::Single && (number == 8 || number == 12);
-                if !never && self.numbers[kind as usize][number] == 0 {
+                let never = kind == Kind::Single && OF_SPANS.contains(&number);
+                if !never && self.came(kind, number) == 0 {
                     list.push(format!("{} {number}", kind.name()));
                 }
             }
+            if self.unreadable(kind) == 0 {
+                list.push(format!("{} 17 of an append", kind.name()));
+            }
             for (what, name) in WHATS {
-                if self.calls[kind as usize][what as usize] == 0 {
+                if self.calls(kind, what) == 0 {
                     list.push(format!("{} {name}", kind.name()));
                 }
             }
@@ -128,10 +152,11 @@ impl Tally {
         let mut text = String::new();
         for kind in [Kind::Paired, Kind::Single] {
             let list: Vec<String> = (0..NUMBERS)
-                .filter(|&n| self.numbers[kind as usize][n] > 0)
-                .map(|n| format!("{n}: {}", self.numbers[kind as usize][n]))
+                .filter(|&n| self.came(kind, n) > 0)
+                .map(|n| format!("{n}: {}", self.came(kind, n)))
                 .collect();
-            text += &format!("numbers, {}: {}\n", kind.name(), list.join(", "));
+            let of_appends = self.unreadable(kind);
+            text += &format!("numbers, {}: {}; of the 17s {of_appends} are of appends\n", kind.name(), list.join(", "));
         }
         text
     }
@@ -158,10 +183,8 @@ impl Tally {
 
     pub fn summary(&self) -> String {
         let of = |kind: Kind| {
-            let list: Vec<String> = WHATS
-                .iter()
-                .map(|(what, name)| format!("{name} {}", self.calls[kind as usize][*what as usize]))
-                .collect();
+            let list: Vec<String> =
+                WHATS.iter().map(|(what, name)| format!("{name} {}", self.calls(kind, *what))).collect();
             format!("{}: {}", kind.name(), list.join(", "))
         };
         let [unsound, sound] = [0, 1].map(|sound| self.audits[0][sound] + self.audits[1][sound]);

@@ -1,5 +1,5 @@
 //! The original's answers as a list of steps, for a program that replays them without any Rust.
-//! A step changes the expected bytes, or makes a call whose number, value, answers and bytes the original gave.
+//! A step changes the expected bytes, or makes a call whose number, value, answers and bytes the original gave, or its readings do (`audit.rs`, `carry.rs`).
 use crate::areas::{Areas, Kind};
 use crate::judge::Batch;
 use crate::tally::NUMBERS;
@@ -35,6 +35,8 @@ pub struct Tape {
     pub calls: u64,
     /// How often each number was the answer.
     pub numbers: [u64; NUMBERS],
+    /// How often 17 was that of an append.
+    pub unreadable: u64,
     /// Audits: of an index that is not sound, and of one that is.
     pub audits: [u64; 2],
     /// Something in the history is too large for the replay's arrays.
@@ -124,7 +126,10 @@ impl Tape {
                 self.bytes.extend([step::TRUNCATE, places]);
                 self.bytes.extend(count.to_le_bytes());
             }
-            Call::Append(batch) => self.append(batch, places),
+            Call::Append(batch) => {
+                self.unreadable += u64::from(number == 17);
+                self.append(batch, places);
+            }
             Call::Read(_) => unreachable!("a reading has answers"),
         }
         self.answer(number, value);

@@ -1,6 +1,7 @@
 //! Calls that stop on the way: the port at fewer places, the original cut after fewer of its writes.
 //! Every state of the one has to be a state of the other, in the same order.
 use crate::areas::{self, counted, first_difference, Areas};
+use crate::carry;
 use crate::judge::{Judge, Refusal};
 use crate::pick::Pick;
 use crate::port;
@@ -21,6 +22,12 @@ impl Trial<'_> {
         self.steps.push(format!("{name}: {call:?}").chars().take(400).collect());
         let before = self.areas.clone();
         let mine: Vec<(port::Answer, Areas)> = (0..=last + 1).map(|places| self.port_run(call, places)).collect();
+        if let Call::Append(batch) = call {
+            let judge = self.judge.as_ref().expect("an opening came first");
+            if let Some(number) = carry::refusal(self.kind, judge, batch)? {
+                return self.refused(name, what, number, &mine);
+            }
+        }
 
         // the original, whole, to see its writes
         let (said, list, judge) = self.original_cut(call, u64::MAX);
@@ -31,15 +38,7 @@ impl Trial<'_> {
             if !grew && (!refused || !list.is_empty()) {
                 return Err(format!("{name}: port refuses with {number}, original {said:?}, {} writes", list.len()));
             }
-            if mine.iter().any(|(answer, areas)| *answer != (number, 0) || *areas != before) {
-                return Err(format!(
-                    "{name}: refused with {number} at one place and not at another, or a store was made"
-                ));
-            }
-            self.tally.note(self.kind, what, number);
-            self.judge = None;
-            self.folder.put(self.kind, &before);
-            return Ok(false);
+            return self.refused(name, what, number, &mine);
         }
         self.agree(name, mine[last as usize].0, said)?;
 
@@ -92,6 +91,18 @@ impl Trial<'_> {
         self.steps.push(format!("torn after {k} of {} writes", list.len()));
         self.restart(left);
         Ok(true)
+    }
+
+    /// Refused with this number, however many places there are, and nothing stored.
+    fn refused(&mut self, name: &str, what: What, number: u64, mine: &[(port::Answer, Areas)]) -> Outcome<bool> {
+        if let Some(s) = mine.iter().position(|(answer, areas)| *answer != (number, 0) || *areas != self.areas) {
+            let answer = mine[s].0;
+            return Err(format!("{name}: {s} places: port {answer:?} where ({number}, 0) is due, or a store was made"));
+        }
+        self.tally.note(self.kind, what, number);
+        self.judge = None;
+        self.folder.put(self.kind, &self.areas);
+        Ok(false)
     }
 
     fn port_run(&self, call: &Call, places: u64) -> (port::Answer, Areas) {

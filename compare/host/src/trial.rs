@@ -1,6 +1,7 @@
 //! One history: the port's areas and the original's files go through the same calls.
 //! After each call number, value, answer words, counted lengths and all bytes from 8 on are held against each other.
 use crate::areas::{self, counted, first_difference, Areas, Kind};
+use crate::carry;
 use crate::judge::{Batch, Folder, Judge, Refusal};
 use crate::port;
 use crate::tally::{Tally, What};
@@ -136,7 +137,7 @@ impl<'a> Trial<'a> {
         }
     }
 
-    /// An answer that both sides gave: the original's, by what was just compared.
+    /// An answer that was just compared: the original's, or the number that its reading of the last record gives.
     pub fn write_down(&mut self, call: &Call, places: u8, answer: port::Answer, after: &Areas) {
         if let Some(tape) = &mut self.tape {
             tape.call(self.kind, call, places, answer.0, answer.1, after);
@@ -163,16 +164,16 @@ impl<'a> Trial<'a> {
     fn append(&mut self, batch: &Batch) -> Outcome<bool> {
         let mut mine = self.areas.clone();
         let answer = port::append(self.kind, &mut mine, batch);
-        let n = batch.starts.len();
-        let differ = n != batch.lens.len()
-            || self.kind == Kind::Paired && (n != batch.span_starts.len() || n != batch.spans.len());
-        if self.kind == Kind::Paired && differ {
-            // the original takes one list of records, so it has no such refusal
-            self.not_the_originals("append", answer, 7, &mine)?;
-            self.tally.note(self.kind, What::Append, 7);
+        let judge = self.judge.as_ref().expect("an opening came first");
+        if let Some(number) = carry::refusal(self.kind, judge, batch)? {
+            self.not_the_originals("append", answer, number, &mine)?;
+            if number != 7 {
+                // lists that differ have no place on the tape
+                self.write_down(&Call::Append(batch.clone()), ALL, answer, &mine);
+            }
+            self.tally.note(self.kind, What::Append, number);
             return Ok(true);
         }
-        let judge = self.judge.as_ref().expect("an opening came first");
         let said = judge.append(batch);
         if answer.0 == 13 {
             // no area grows, and a file does: the original has to have grown one
@@ -312,10 +313,10 @@ impl<'a> Trial<'a> {
         Ok(())
     }
 
-    /// The port's refusal is the one that document 01 adds, and it left everything as it was.
+    /// The port's refusal is the one that the documents add, and it left everything as it was.
     fn not_the_originals(&self, call: &str, answer: port::Answer, number: u64, mine: &Areas) -> Outcome<()> {
         if answer != (number, 0) {
-            return Err(format!("{call}: port {answer:?} where document 01 has ({number}, 0)"));
+            return Err(format!("{call}: port {answer:?} where the documents have ({number}, 0)"));
         }
         if *mine != self.areas {
             return Err(format!("{call}: the port refused with {number} and changed an area"));

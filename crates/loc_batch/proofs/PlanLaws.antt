@@ -17,17 +17,20 @@ use Rattle.loc_leaf.specs.Bytes.{Bytes}
 use Rattle.loc_leaf.specs.Area.{counted}
 use Rattle.loc_leaf.specs.Kind.{rowWidth, checkpointWidth}
 use Rattle.loc_leaf.proofs.Booleans.{is?}
-use Rattle.loc_leaf.proofs.Refusals.{orElse-first}
+use Rattle.loc_leaf.proofs.Refusals.{orElse-first, orElse-assoc}
 use Rattle.loc_leaf.proofs.AreaLaws.{counted-le, length-flatten}
 use Rattle.loc_calls.specs.Areas.{Areas, sizes, count}
-use Rattle.loc_calls.specs.Table.{Entry, Batch, append, zipped, entries, uneven, entriesRefusal, endPast, batchRefusal, table}
+use Rattle.loc_calls.specs.Table.{Entry, Batch, append, zipped, entries, uneven, entriesRefusal, startRefusal, endPast, batchRefusal, table}
 use Rattle.loc_calls.specs.Stores.{gather, slotOf, rowOf, checkpointOf, staged, newEnd, newEnds}
+use Rattle.loc_calls.specs.Reading.{endRead}
+use Rattle.loc_calls.specs.Calls.{tableOf}
 use Rattle.loc_calls.proofs.Batches.{Fits, batch-tested, batch-fits}
 use Rattle.loc_calls.proofs.Gathered.{widths-slots, widths-rows, widths-checkpoints, length-slots, length-checkpoints-from}
-use Rattle.loc_batch.specs.Lists.{entryAt, listed, Held, rowTotal, Tested}
+use Rattle.loc_batch.specs.Lists.{entryAt, asEntry, listed, Held, rowTotal, Tested}
 use Rattle.loc_batch.proofs.EntryLaws.{starts-even, spans-even}
 use Rattle.loc_batch.proofs.BatchLaws.{rows-staged}
-use Rattle.loc_batch.specs.Plans.{EndsOf, windows, reached, Reaches, Ready, RoomPast, Planned}
+use Rattle.loc_batch.specs.Plans.{TestedOn, EndsOf, windows, reached, Reaches, Ready, RoomPast, Planned}
+use Rattle.loc_batch.specs.declared.Record.{Record}
 use Rattle.loc_batch.specs.declared.Stage.{Stage}
 use Rattle.loc_batch.specs.declared.Ends.{Ends}
 use Rattle.loc_batch.specs.declared.Decision.{Decision}
@@ -101,6 +104,21 @@ all-held k b agree ea h = record { even = of (uneven k b) (sym ea ∙ h); inside
     of true q = absurd (false≢true q)
     of false q = refl
 
+-- ---- the tests of a batch
+
+-- the first record's starts are what 17, 23 and 24 look at
+module _ (k : Kind) (a : Areas) (f : ℕ → Entry) (n number : ℕ) (x : Record) (ex : asEntry x ≡ f 0)
+    (en : (e : Entry) → e .start ≡ x .start → e .spanStart ≡ x .«span_start» → number ≡ startRefusal (endRead k a) e) where
+  start-number : number ≡ startRefusal (endRead k a) (f 0)
+  unfolding asEntry
+  start-number = en (f 0) (ap (λ (e : Entry). e .start) (sym ex)) (ap (λ (e : Entry). e .spanStart) (sym ex))
+
+  pub start-refused : (number ≡ 0 → ⊥) → TestedOn k a f n number 0
+  start-refused h = record { refused = rw (← start-number) (sym (orElse-first number _ h)); total = λ z. absurd (h z) }
+
+  pub start-passed : number ≡ 0 → (first rows : ℕ) → Tested k (listed f 0 n) first rows → TestedOn k a f n first rows
+  start-passed z first rows t = record { refused = rw (← start-number, z) (t .refused); total = t .total }
+
 -- ---- the ends that the records of a batch reach
 
 length-listed : (f : ℕ → Entry) (i n : ℕ) → length (listed f i n) ≡ n
@@ -155,11 +173,12 @@ module _ (k : Kind) (a : Areas) (b : Batch) (agree : Bool) (ea : agree ≡ not (
     es : List Entry
     es = listed (entryAt k b) 0 (length (b .lens))
 
-    whole : table k (count a) (newEnds k a) (sizes a) (append b) ≡ batchRefusal k (newEnds k a es) (sizes a) es
+    whole : tableOf k a (append b) ≡ batchRefusal k (endRead k a) (newEnds k a es) (sizes a) es
     unfolding table es
     whole = rw (even, entries-listed k b even) refl
 
-    some-listed : (n : ℕ) → (n ≡ 0 → ⊥) → batchRefusal k (newEnds k a (listed (entryAt k b) 0 n)) (sizes a) (listed (entryAt k b) 0 n) ≡ entriesRefusal k (listed (entryAt k b) 0 n) orElse refuse (endPast (newEnds k a (listed (entryAt k b) 0 n)) (sizes a)) 13
+    some-listed : (n : ℕ) → (n ≡ 0 → ⊥) → batchRefusal k (endRead k a) (newEnds k a (listed (entryAt k b) 0 n)) (sizes a) (listed (entryAt k b) 0 n)
+        ≡ startRefusal (endRead k a) (entryAt k b 0) orElse entriesRefusal k (listed (entryAt k b) 0 n) orElse refuse (endPast (newEnds k a (listed (entryAt k b) 0 n)) (sizes a)) 13
     unfolding batchRefusal listed
     some-listed zero z = absurd (z refl)
     some-listed (suc n) z = refl
@@ -168,7 +187,7 @@ module _ (k : Kind) (a : Areas) (b : Batch) (agree : Bool) (ea : agree ≡ not (
 ready-from : (k : Kind) (a : Areas) (es : List Entry) (t : Stage) → t .base ≡ count a → EndsOf a (t .old)
     → t .new .slots ≡ newEnd (a .slots) (gather (slotOf k) (count a) es) → t .new .rows ≡ newEnd (a .rows) (gather (rowOf k) (count a) es)
     → t .new .checkpoints ≡ newEnd (a .checkpoints) (gather (checkpointOf k) (count a) es) → t .base + t .n < 2 ^ 64
-    → batchRefusal k (newEnds k a es) (sizes a) es ≡ 0 → Ready k a es t
+    → batchRefusal k (endRead k a) (newEnds k a es) (sizes a) es ≡ 0 → Ready k a es t
 unfolding RoomPast newEnd staged
 ready-from k a es t eb eo x y z few ok = record {
   base = eb;
@@ -179,7 +198,7 @@ ready-from k a es t eb eo x y z few ok = record {
   newRows = rw eb y;
   newCheckpoints = rw eb z;
   room = record {
-    accepted = batch-tested k (newEnds k a es) (sizes a) es ok;
+    accepted = batch-tested k (endRead k a) (newEnds k a es) (sizes a) es ok;
     inSlots = rw eb (omega (arith, fits .slots));
     inRows = rw eb (omega (arith, fits .rows));
     inCheckpoints = rw eb (omega (arith, fits .checkpoints));
@@ -188,12 +207,12 @@ ready-from k a es t eb eo x y z few ok = record {
 }
   where
     fits : Fits a (staged k (count a) es)
-    fits = batch-fits k a es ok
+    fits = batch-fits k (endRead k a) a es ok
 
 module _ (k : Kind) (a : Areas) (b : Batch) (agree : Bool) (ea : agree ≡ not (uneven k b)) (h : agree ≡ true) (old : Ends) (eo : EndsOf a old) (base : ℕ) (eb : base ≡ count a) (n : ℕ) (en : n ≡ length (b .lens)) where
-  all-of : table k (count a) (newEnds k a) (sizes a) (append b) ≡ batchRefusal k (newEnds k a (listed (entryAt k b) 0 n)) (sizes a) (listed (entryAt k b) 0 n)
+  all-of : tableOf k a (append b) ≡ batchRefusal k (endRead k a) (newEnds k a (listed (entryAt k b) 0 n)) (sizes a) (listed (entryAt k b) 0 n)
   unfolding es
-  all-of = whole k a b agree ea h ∙ ap (λ (m : ℕ). batchRefusal k (newEnds k a (listed (entryAt k b) 0 m)) (sizes a) (listed (entryAt k b) 0 m)) (sym en)
+  all-of = whole k a b agree ea h ∙ ap (λ (m : ℕ). batchRefusal k (endRead k a) (newEnds k a (listed (entryAt k b) 0 m)) (sizes a) (listed (entryAt k b) 0 m)) (sym en)
 
   listed-of : entries k b ≡ listed (entryAt k b) 0 n
   listed-of = entries-listed k b (even k a b agree ea h) ∙ ap (listed (entryAt k b) 0) (sym en)
@@ -206,31 +225,37 @@ module _ (k : Kind) (a : Areas) (b : Batch) (agree : Bool) (ea : agree ≡ not (
     held = λ _. record { even = even k a b agree ea h; inside = omega arith };
   }
     where
-      none₀ : batchRefusal k (newEnds k a (listed (entryAt k b) 0 0)) (sizes a) (listed (entryAt k b) 0 0) ≡ 0
+      none₀ : batchRefusal k (endRead k a) (newEnds k a (listed (entryAt k b) 0 0)) (sizes a) (listed (entryAt k b) 0 0) ≡ 0
       none₀ = unfold batchRefusal in (unfold listed in refl)
 
-      none : batchRefusal k (newEnds k a (listed (entryAt k b) 0 n)) (sizes a) (listed (entryAt k b) 0 n) ≡ 0
+      none : batchRefusal k (endRead k a) (newEnds k a (listed (entryAt k b) 0 n)) (sizes a) (listed (entryAt k b) 0 n) ≡ 0
       none = rw z none₀
 
       same : (xs : Bytes) (g : ℕ → Entry → List Bytes) {v : ℕ} → v ≡ counted xs → v ≡ newEnd xs (gather g (count a) (listed (entryAt k b) 0 0))
       same xs g e = e ∙ sym (unfold newEnd in (unfold listed in (unfold gather in (unfold flatten in add-zero (counted xs)))))
 
-  module _ (z : n ≡ 0 → ⊥) (number rows : ℕ) (tested : Tested k (listed (entryAt k b) 0 n) number rows) where
+  module _ (z : n ≡ 0 → ⊥) (number rows : ℕ) (tested : TestedOn k a (entryAt k b) n number rows) where
+    -- 17, 23, 24 and the records' refusals, then 13
+    number-first : batchRefusal k (endRead k a) (newEnds k a (listed (entryAt k b) 0 n)) (sizes a) (listed (entryAt k b) 0 n) ≡ number orElse refuse (endPast (newEnds k a (listed (entryAt k b) 0 n)) (sizes a)) 13
+    number-first =
+        some-listed k a b agree ea h n z
+        ∙ rw (tested .refused) (sym (orElse-assoc (startRefusal (endRead k a) (entryAt k b 0)) (entriesRefusal k (listed (entryAt k b) 0 n)) (refuse (endPast (newEnds k a (listed (entryAt k b) 0 n)) (sizes a)) 13)))
+
     pub plan-refused : (t : Stage) → (number ≡ 0 → ⊥) → Planned k a b (record { number = number; stage = t })
     plan-refused t g = record {
-      number = sym (all-of ∙ some-listed k a b agree ea h n z ∙ rw (← tested .refused) (orElse-first number _ g));
+      number = sym (all-of ∙ number-first ∙ orElse-first number _ g);
       entries = λ e. absurd (g e);
       ready = λ e. absurd (g e);
       held = λ e. absurd (g e);
     }
 
     module _ (ok : number ≡ 0) (d : Decision) (r : Reaches k (length (a .slots)) (length (a .rows)) (length (a .checkpoints)) old base n rows d) where
-      reach-number : d .number ≡ batchRefusal k (newEnds k a (listed (entryAt k b) 0 n)) (sizes a) (listed (entryAt k b) 0 n)
+      reach-number : d .number ≡ batchRefusal k (endRead k a) (newEnds k a (listed (entryAt k b) 0 n)) (sizes a) (listed (entryAt k b) 0 n)
       unfolding endPast newEnds staged sizes reached
       reach-number =
           r .number
           ∙ rw (← reached-slots k a (listed (entryAt k b) 0 n) old eo base n eb long, ← reached-rows k a (listed (entryAt k b) 0 n) old eo base n eb long rows (tested .total ok), ← reached-checkpoints k a (listed (entryAt k b) 0 n) old eo base n eb long)
-          (sym (some-listed k a b agree ea h n z ∙ rw (← tested .refused, ok) refl))
+          (sym (number-first ∙ rw ok refl))
         where
           long : length (listed (entryAt k b) 0 n) ≡ n
           long = length-listed (entryAt k b) 0 n

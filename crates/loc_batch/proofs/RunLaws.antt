@@ -7,10 +7,10 @@ use Rattle.loc_leaf.specs.declared.Kind.{Kind}
 use Rattle.loc_leaf.specs.Bytes.{Bytes}
 use Rattle.loc_leaf.specs.Answers.{_orElse_}
 use Rattle.loc_leaf.specs.Area.{fill}
-use Rattle.loc_calls.specs.Areas.{Areas, areas, sizes, count}
-use Rattle.loc_calls.specs.Table.{Entry, Batch, append, entries, table}
-use Rattle.loc_calls.specs.Stores.{Place, run, differing, staged, appendPlaces, newEnds}
-use Rattle.loc_calls.specs.Calls.{firstRefusal, unread, isOpening, refusal, places, value, call}
+use Rattle.loc_calls.specs.Areas.{Areas, areas, count}
+use Rattle.loc_calls.specs.Table.{Entry, Batch, append, entries}
+use Rattle.loc_calls.specs.Stores.{Place, run, differing, staged, appendPlaces}
+use Rattle.loc_calls.specs.Calls.{firstRefusal, unread, isOpening, tableOf, refusal, places, value, call}
 use Rattle.loc_leaf.proofs.Refusals.{orElse-first, orElse-zero}
 use Rattle.loc_calls.specs.Promises.{Stored}
 use Rattle.loc_calls.proofs.Outcomes.{refused, accepted, refusal-after}
@@ -26,11 +26,11 @@ places-are k a es t r =
 
 module _ (k : Kind) (s r c : Bytes) (b : Batch) (p : ℕ) where
   append-number : (first : ℕ) → first ≡ firstRefusal k (areas s r c)
-      → refusal k (append b) (areas s r c) ≡ first orElse table k (count (areas s r c)) (newEnds k (areas s r c)) (sizes (areas s r c)) (append b)
+      → refusal k (append b) (areas s r c) ≡ first orElse tableOf k (areas s r c) (append b)
   unfolding isOpening unread
   append-number first e =
       refusal-after k (append b) (areas s r c) first refl e
-      ∙ ap (λ (n : ℕ). first orElse n) (orElse-zero (table k (count (areas s r c)) (newEnds k (areas s r c)) (sizes (areas s r c)) (append b)))
+      ∙ ap (λ (n : ℕ). first orElse n) (orElse-zero (tableOf k (areas s r c) (append b)))
 
   pub append-refused : (first : ℕ) → first ≡ firstRefusal k (areas s r c) → (first ≡ 0 → ⊥)
       → Stored (call k p (append b) (areas s r c)) (record { number = first; value = 0 }) (areas s r c)

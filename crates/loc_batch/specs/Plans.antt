@@ -1,4 +1,4 @@
--- What an append decides before it stores: the ends of the areas before and after it, and its four places.
+-- What an append decides before it stores: its refusals, the ends of the areas before and after it, and its four places.
 -- Of an inner crate: proofs/AppendLaws ties them to the places of loc_calls.
 use Prim.Native.Nat.{ℕ, _+_, _-_, _*_, _/_, _^_, _<_}
 use mathlib.Core.Path.{_≡_}
@@ -9,12 +9,14 @@ use lib.ListN.{length}
 use Rattle.loc_leaf.specs.declared.Kind.{Kind}
 use Rattle.loc_leaf.specs.Bytes.{Bytes}
 use Rattle.loc_leaf.specs.Area.{counted, storeLength}
-use Rattle.loc_leaf.specs.Answers.{refuse}
+use Rattle.loc_leaf.specs.Answers.{refuse, _orElse_}
 use Rattle.loc_leaf.specs.Kind.{rowWidth, checkpointWidth}
-use Rattle.loc_calls.specs.Areas.{Areas, each, sizes, count}
-use Rattle.loc_calls.specs.Table.{Entry, Batch, append, table}
-use Rattle.loc_calls.specs.Stores.{Place, keep, slotLength, rowLength, checkpointLength, write, gather, slotOf, rowOf, checkpointOf, staged, newEnd, newEnds}
-use Rattle.loc_batch.specs.Lists.{entryAt, listed, Held, Room}
+use Rattle.loc_calls.specs.Areas.{Areas, each, count}
+use Rattle.loc_calls.specs.Table.{Entry, Batch, append, entriesRefusal, startRefusal}
+use Rattle.loc_calls.specs.Stores.{Place, keep, slotLength, rowLength, checkpointLength, write, gather, slotOf, rowOf, checkpointOf, staged, newEnd}
+use Rattle.loc_calls.specs.Reading.{endRead}
+use Rattle.loc_calls.specs.Calls.{tableOf}
+use Rattle.loc_batch.specs.Lists.{entryAt, listed, rowTotal, Held, Room}
 use Rattle.loc_batch.specs.declared.Stage.{Stage}
 use Rattle.loc_batch.specs.declared.Ends.{Ends}
 use Rattle.loc_batch.specs.declared.Decision.{Decision}
@@ -39,6 +41,11 @@ stagePlaces k es t =
 unfoldable pub RoomPast : Kind → ℕ → ℕ → List Entry → Areas → Type 0
 RoomPast k base n es a =
     Room k base n es (length (a .slots) - counted (a .slots)) (length (a .rows) - counted (a .rows)) (length (a .checkpoints) - counted (a .checkpoints))
+
+-- what the tests of a batch of n records find: 17, 23, 24, then the first refusal of a record; where there is none, how many rows they stage
+pub record TestedOn (k : Kind) (a : Areas) (f : ℕ → Entry) (n number rows : ℕ) : Type 0 where
+  pub refused : number ≡ startRefusal (endRead k a) (f 0) orElse entriesRefusal k (listed f 0 n)
+  pub total : number ≡ 0 → rows ≡ rowTotal k (listed f 0 n)
 
 -- these are the counted lengths
 pub record EndsOf (a : Areas) (e : Ends) : Type 0 where
@@ -72,9 +79,9 @@ pub record Ready (k : Kind) (a : Areas) (es : List Entry) (t : Stage) : Type 0 w
   pub newCheckpoints : t .new .checkpoints ≡ newEnd (a .checkpoints) (gather (checkpointOf k) (t .base) es)
   pub room : RoomPast k (t .base) (t .n) es a
 
--- the refusals 7 to 13 and 22 and, where there is none, a stage of the batch's records
+-- the refusals of the table and, where there is none, a stage of the batch's records
 pub record Planned (k : Kind) (a : Areas) (b : Batch) (d : Decision) : Type 0 where
-  pub number : d .number ≡ table k (count a) (newEnds k a) (sizes a) (append b)
+  pub number : d .number ≡ tableOf k a (append b)
   pub entries : d .number ≡ 0 → Rattle.loc_calls.specs.Table.entries k b ≡ listed (entryAt k b) 0 (d .stage .n)
   pub ready : d .number ≡ 0 → Ready k a (listed (entryAt k b) 0 (d .stage .n)) (d .stage)
   pub held : d .number ≡ 0 → Held k b (d .stage .n)

@@ -1,17 +1,23 @@
-// What an append decides before it stores: its refusals 7 to 13 and 22 and, where there is none, its stage.
+// What an append decides before it stores: its refusals 7 to 13, 17 and 22 to 24 and, where there is none, its stage.
 // Nothing is stored here.
 ghost use mathlib.Core.Path.{_≡_};
 ghost use mathlib.Core.Bool.{false};
 ghost use Prim.Native.Nat.{_+_, _-_, _*_, _/_, _≤_, _<_};
 ghost use lib.Dec.{ltb};
 ghost use Rattle.loc_calls.specs.Table.{batch};
+ghost use Rattle.loc_leaf.specs.Area.{fill};
 ghost use Rattle.loc_calls.specs.Areas.{areas};
-ghost use Rattle.loc_batch.specs.Plans.{EndsOf, Reaches, Planned};
+ghost use Rattle.loc_calls.specs.Calls.{firstRefusal};
+ghost use Rattle.loc_batch.specs.Lists.{entryAt, Held};
+ghost use Rattle.loc_batch.specs.Plans.{TestedOn, EndsOf, Reaches, Planned};
 use crate::Decision;
 use crate::Ends;
 use crate::Stage;
+use crate::batch::Checked;
 use crate::batch::check_batch;
 use crate::batch::lists_agree;
+use crate::entry::record_at;
+use loc_end::start::start_refusal;
 use loc_leaf::Kind;
 use loc_leaf::delta_loc::LOC_WINDOW;
 use loc_leaf::delta_loc::checkpoint_width;
@@ -96,7 +102,33 @@ fn reach(
     }
 }
 
-// 7 to 13 and 22, or the stage of the batch.
+// 17, 23, 24, then the refusals of the records, of which there are n after `base` others.
+fn check_append(
+    kind: Kind,
+    slots: &[u8],
+    rows: &[u8],
+    checkpoints: &[u8],
+    base: u64,
+    starts: &[u64],
+    lens: &[u64],
+    span_starts: &[u64],
+    span_counts: &[u32],
+    n: usize,
+) -> Checked
+    requires { ⌜ (firstRefusal kind (areas (now slots) (now rows) (now checkpoints)) ≡ 0) × (base ≡ fill 2 (now slots)) × (0 < n) ⌝ }
+    requires { ⌜ Held kind (batch (now starts) (now lens) (now «span_starts») (now «span_counts»)) n ⌝ }
+    ensures { λ r. ⌜ TestedOn kind (areas (now (slots .entry)) (now (rows .entry)) (now (checkpoints .entry)))
+        (entryAt kind (batch (now (starts .entry)) (now (lens .entry)) (now («span_starts» .entry)) (now («span_counts» .entry)))) n (r .number) (r .rows) ⌝ }
+{
+    let e = record_at(kind, starts, lens, span_starts, span_counts, 0);
+    let number = start_refusal(kind, slots, rows, checkpoints, base, e.start, e.span_start);
+    if number != 0 {
+        return Checked { number, rows: 0 };
+    }
+    check_batch(kind, starts, lens, span_starts, span_counts, n)
+}
+
+// 7 to 13, 17, 22 to 24, or the stage of the batch.
 pub fn plan_append(
     kind: Kind,
     slots: &[u8],
@@ -107,6 +139,7 @@ pub fn plan_append(
     span_starts: &[u64],
     span_counts: &[u32],
 ) -> Decision
+    requires { ⌜ firstRefusal kind (areas (now slots) (now rows) (now checkpoints)) ≡ 0 ⌝ }
     ensures { λ r. ⌜ Planned kind (areas (now (slots .entry)) (now (rows .entry)) (now (checkpoints .entry)))
         (batch (now (starts .entry)) (now (lens .entry)) (now («span_starts» .entry)) (now («span_counts» .entry))) r ⌝ }
 {
@@ -126,7 +159,18 @@ pub fn plan_append(
                 stage: none,
             };
         }
-        let checked = check_batch(kind, starts, lens, span_starts, span_counts, n);
+        let checked = check_append(
+            kind,
+            slots,
+            rows,
+            checkpoints,
+            base,
+            starts,
+            lens,
+            span_starts,
+            span_counts,
+            n,
+        );
         let number = checked.number;
         if number != 0 {
             return Decision {

@@ -12,7 +12,7 @@ use loc_leaf::Kind;
 use loc_store::check::call_refusal;
 use loc_store::plan::piece_count;
 
-// 7 to 13 and 22, of areas that neither 1 nor 6 refuses; then the first `places` of the four. The value is the count that the areas then hold.
+// 7 to 13, 17 and 22 to 24, of areas that neither 1 nor 6 refuses; then the first `places` of the four. The value is the count that the areas then hold.
 pub fn append_settled(
     kind: Kind,
     slots: &mut [u8],
@@ -62,7 +62,7 @@ pub fn append_settled(
     }
 }
 
-// 1, 6; 7 to 13 and 22; then the first `places` of the four. The value is the count that the areas then hold.
+// 1, 6; 7 to 13, 17 and 22 to 24; then the first `places` of the four. The value is the count that the areas then hold.
 pub fn append_run(
     kind: Kind,
     slots: &mut [u8],

@@ -19,7 +19,7 @@ use Rattle.loc_leaf.proofs.Refusals.{orElse-left, orElse-right, refuse-zero}
 use Rattle.loc_leaf.proofs.AreaLaws.{counted-le}
 use Rattle.loc_leaf.proofs.ValueLaws.{SpansFit}
 use Rattle.loc_calls.specs.Areas.{Three, Areas, sizes, count}
-use Rattle.loc_calls.specs.Table.{Entry, valueOf, bodyAfter, spanAfter, Batch, zipped, entries, spanless, breaks, entryRefusal, entriesRefusal, endPast, batchRefusal}
+use Rattle.loc_calls.specs.Table.{Entry, valueOf, saturated, bodyAfter, spanAfter, Batch, zipped, entries, spanless, breaks, entryRefusal, entriesRefusal, ListEnd, startRefusal, endPast, batchRefusal}
 use Rattle.loc_calls.specs.Stores.{gather, staged, newEnd, newEnds}
 use Rattle.loc_calls.proofs.Gathered.{ValidEntry, AllValid}
 use Rattle.loc_calls.proofs.Chains.{lens, spans, lens-append, spans-append, Chained, chained-append, Good}
@@ -89,16 +89,31 @@ single-spans b = zipped-spans (b .starts) (b .lens) (replicate (length (b .lens)
 
 -- ---- a chain
 
+-- two starts that a test of them does not refuse
+same-start : (x y n : ℕ) → refuse (not (eqb x y)) (suc n) ≡ 0 → x ≡ y
+same-start x y n t = eqb-true x y (not-false (eqb x y) (refuse-zero (not (eqb x y)) n t))
+
 -- 11 and 12 leave a chain
 chain-step : (e d : Entry) (ds : List Entry) → breaks e (d ∷ ds) ≡ 0 → (d .start ≡ bodyAfter e) × (d .spanStart ≡ spanAfter e)
 unfolding breaks
 chain-step e d ds h = (
-  equal (d .start) (bodyAfter e) 10 (orElse-left (refuse (not (eqb (d .start) (bodyAfter e))) 11) (refuse (not (eqb (d .spanStart) (spanAfter e))) 12) h),
-  equal (d .spanStart) (spanAfter e) 11 (orElse-right (refuse (not (eqb (d .start) (bodyAfter e))) 11) (refuse (not (eqb (d .spanStart) (spanAfter e))) 12) h),
+  same-start (d .start) (bodyAfter e) 10 (orElse-left (refuse (not (eqb (d .start) (bodyAfter e))) 11) (refuse (not (eqb (d .spanStart) (spanAfter e))) 12) h),
+  same-start (d .spanStart) (spanAfter e) 11 (orElse-right (refuse (not (eqb (d .start) (bodyAfter e))) 11) (refuse (not (eqb (d .spanStart) (spanAfter e))) 12) h),
 )
+
+-- 23 and 24 leave a batch that carries on
+pub carries-on : (end : ListEnd) (e : Entry) → startRefusal end e ≡ 0 → (e .start ≡ saturated (end .body)) × (e .spanStart ≡ saturated (end .span))
+unfolding startRefusal
+carries-on end e h = (same-start (e .start) (saturated (end .body)) 22 (orElse-left body span both), same-start (e .spanStart) (saturated (end .span)) 23 (orElse-right body span both))
   where
-    equal : (x y n : ℕ) → refuse (not (eqb x y)) (suc n) ≡ 0 → x ≡ y
-    equal x y n t = eqb-true x y (not-false (eqb x y) (refuse-zero (not (eqb x y)) n t))
+    body : ℕ
+    body = refuse (not (eqb (e .start) (saturated (end .body)))) 23
+
+    span : ℕ
+    span = refuse (not (eqb (e .spanStart) (saturated (end .span)))) 24
+
+    both : (body orElse span) ≡ 0
+    both = orElse-right (refuse (end .unread) 17) (body orElse span) h
 
 chain-of : (k : Kind) (b s : ℕ) (e : Entry) (es : List Entry) → entriesRefusal k (e ∷ es) ≡ 0 → e .start ≡ b → e .spanStart ≡ s
     → b + lens (e ∷ es) < 2 ^ 64 → s + 8 * spans (e ∷ es) < 2 ^ 64 → Chained b s (e ∷ es)
@@ -133,6 +148,28 @@ good-append k E e es g h p q hb hs = record {
   span = hs;
 }
 
+-- ---- what an accepted batch has passed
+
+module _ (k : Kind) (end : ListEnd) (ends size : Three ℕ) (e : Entry) (es : List Entry) (h : batchRefusal k end ends size (e ∷ es) ≡ 0) where
+  pub start-tested : startRefusal end e ≡ 0
+  unfolding batchRefusal
+  start-tested = orElse-left (startRefusal end e) (entriesRefusal k (e ∷ es) orElse refuse (endPast ends size) 13) h
+
+  past-start : (entriesRefusal k (e ∷ es) orElse refuse (endPast ends size) 13) ≡ 0
+  unfolding batchRefusal
+  past-start = orElse-right (startRefusal end e) (entriesRefusal k (e ∷ es) orElse refuse (endPast ends size) 13) h
+
+  entries-tested : entriesRefusal k (e ∷ es) ≡ 0
+  entries-tested = orElse-left (entriesRefusal k (e ∷ es)) (refuse (endPast ends size) 13) past-start
+
+  inside : endPast ends size ≡ false
+  inside = refuse-zero (endPast ends size) 12 (orElse-right (entriesRefusal k (e ∷ es)) (refuse (endPast ends size) 13) past-start)
+
+pub batch-tested : (k : Kind) (end : ListEnd) (ends size : Three ℕ) (es : List Entry) → batchRefusal k end ends size es ≡ 0 → entriesRefusal k es ≡ 0
+unfolding entriesRefusal
+batch-tested k end ends size [] h = refl
+batch-tested k end ends size (e ∷ es) h = entries-tested k end ends size e es h
+
 -- ---- room
 
 -- 13 leaves new ends within their areas
@@ -152,21 +189,13 @@ none-past x y h = (
     first-two : (ltb (y .slots) (x .slots) || ltb (y .rows) (x .rows)) ≡ false
     first-two = neither-left (ltb (y .slots) (x .slots) || ltb (y .rows) (x .rows)) (ltb (y .checkpoints) (x .checkpoints)) h
 
-pub batch-tested : (k : Kind) (ends size : Three ℕ) (es : List Entry) → batchRefusal k ends size es ≡ 0 → entriesRefusal k es ≡ 0
-unfolding batchRefusal entriesRefusal
-batch-tested k ends size [] h = refl
-batch-tested k ends size (e ∷ es) h = orElse-left (entriesRefusal k (e ∷ es)) (refuse (endPast ends size) 13) h
-
-pub batch-fits : (k : Kind) (a : Areas) (es : List Entry) → batchRefusal k (newEnds k a es) (sizes a) es ≡ 0 → Fits a (staged k (count a) es)
-unfolding batchRefusal gather staged newEnd newEnds flatten
-batch-fits k a [] h = record { slots = omega (arith, counted-le (a .slots)); rows = omega (arith, counted-le (a .rows)); checkpoints = omega (arith, counted-le (a .checkpoints)) }
-batch-fits k a (e ∷ es) h = record { slots = room .0; rows = room .1; checkpoints = room .2 }
+pub batch-fits : (k : Kind) (end : ListEnd) (a : Areas) (es : List Entry) → batchRefusal k end (newEnds k a es) (sizes a) es ≡ 0 → Fits a (staged k (count a) es)
+unfolding gather staged newEnd newEnds flatten
+batch-fits k end a [] h = record { slots = omega (arith, counted-le (a .slots)); rows = omega (arith, counted-le (a .rows)); checkpoints = omega (arith, counted-le (a .checkpoints)) }
+batch-fits k end a (e ∷ es) h = record { slots = room .0; rows = room .1; checkpoints = room .2 }
   where
     ends : Three ℕ
     ends = newEnds k a (e ∷ es)
 
-    inside : endPast ends (sizes a) ≡ false
-    inside = refuse-zero (endPast ends (sizes a)) 12 (orElse-right (entriesRefusal k (e ∷ es)) (refuse (endPast ends (sizes a)) 13) h)
-
     room : (ends .slots ≤ length (a .slots)) × (ends .rows ≤ length (a .rows)) × (ends .checkpoints ≤ length (a .checkpoints))
-    room = unfold sizes in none-past ends (sizes a) inside
+    room = unfold sizes in none-past ends (sizes a) (inside k end ends (sizes a) e es h)

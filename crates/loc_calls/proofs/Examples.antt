@@ -15,9 +15,9 @@ use Rattle.loc_leaf.specs.Rows.{row, rowNumber, rowValue, rowList, ascending, l
 use Rattle.loc_leaf.specs.Cut.{matches, cuts, cutFor}
 use Rattle.loc_calls.specs.declared.SpanAt.{SpanAt}
 use Rattle.loc_calls.specs.Areas.{Three, each, Areas, sizes, count}
-use Rattle.loc_calls.specs.Table.{valueOf, bodyAfter, spanAfter, Call, opening, append, truncate, read, zipped, entries, uneven, spanless, breaks, entryRefusal, entriesRefusal, endPast, batchRefusal, table}
+use Rattle.loc_calls.specs.Table.{valueOf, bodyAfter, spanAfter, Call, opening, append, truncate, read, zipped, entries, uneven, spanless, breaks, entryRefusal, entriesRefusal, startRefusal, endPast, batchRefusal, table}
 use Rattle.loc_calls.specs.Stores.{step, run, differing, truncatePlaces, nextRow, holdsNext, cutRule, ruledCount, ruled, openPlaces, ragged, openRefusal, stores, anyStores, settled, checkpoint, gather, rowOf, checkpointOf, staged, newEnd, newEnds, appendPlaces}
-use Rattle.loc_calls.specs.Reading.{sumAfter, allAfter, firstAfter, lookupAt, has, valueAt, stridesAfter, spansAfter, checkpointAt, windowEnd, lookedAt, within, rowMissing, anyMissing, words, wordsFor, answered, found}
+use Rattle.loc_calls.specs.Reading.{sumAfter, allAfter, firstAfter, lookupAt, has, valueAt, stridesAfter, spansAfter, checkpointAt, windowEnd, lookedAt, within, rowMissing, anyMissing, words, wordsFor, answered, found, bodyRead, spanRead, endRead}
 use Rattle.loc_calls.specs.Audit.{bodySum, spanSum, checkpointSound, sound}
 use Rattle.loc_calls.specs.Calls.{unlessRefused, tooSmall, wholeRefusal, unread, isOpening, refusal, places, placeCount, value, lent, buffer, areasAfter, call, createPlaces, create, audit}
 use Rattle.loc_calls.specs.SpanAt.{holds, refusedBy, crossing, spanAmong, spanAt}
@@ -64,6 +64,10 @@ numberOf k c a = ((call k (placeCount c) c a) .answer) .number
 abbrev after : Kind → ℕ → Call → Areas → Areas
 after k s c a = (call k s c a) .areas
 
+-- the same of a call that is not refused, its refusal not computed: that of an append adds up a window
+abbrev stored : Kind → ℕ → Call → Areas → Areas
+stored k s c a = run s (places k c a) a
+
 abbrev lengths : Areas → Three ℕ
 lengths a = each counted a
 
@@ -100,7 +104,15 @@ high = three (area 2066 (replicate 2048 5 ++ (2 ∷ 2 ∷ []))) (area 16 []) (ar
 abbrev located : ℕ → ℕ → ℕ → SpanAt
 located id i m = record { number = 0; «record» = id; index = i; remainder = m }
 
--- ---- every number that opening, append, truncation and reading give: 1 to 17 and 22
+-- 1,025 records of length 40 with 5 spans; checkpoint 1 says where the last one starts
+abbrev beyond : ℕ → ℕ → Areas
+beyond body span = three (area 2066 (replicate 2050 5)) (area 16 []) (area 32 (bytes 8 body ++ bytes 8 span))
+
+-- a record of a stride with one span
+abbrev startsAt : ℕ → ℕ → Call
+startsAt body span = batch (body ∷ []) (8 ∷ []) (span ∷ []) (1 ∷ [])
+
+-- ---- every number that opening, append, truncation and reading give: 1 to 17 and 22 to 24
 
 abbrev numbers : List ℕ
 numbers =
@@ -122,6 +134,28 @@ numbers =
     ∷ numberOf Paired (read (0 ∷ []) (9 ∷ [])) full
     ∷ numberOf Paired (read (2 ∷ []) (replicate 6 9)) rowless
     ∷ numberOf Paired (batch (16 ∷ []) (0 ∷ []) (16 ∷ []) (1 ∷ [])) empty
+    ∷ numberOf Single (startsAt 24 16) empty
+    ∷ numberOf Paired (startsAt 16 24) empty
+    ∷ []
+
+-- ---- where the list ends, after the numbers before and before the records: 13 where a batch carries on, as there is no room for it
+
+abbrev starts : List ℕ
+starts =
+    numberOf Paired (batch (16 ∷ []) [] [] []) rowless
+    ∷ numberOf Paired (batch [] [] [] []) rowless
+    ∷ numberOf Paired (startsAt 2104 48) rowless
+    ∷ numberOf Paired (batch (2105 ∷ []) (0 ∷ []) (49 ∷ []) (0 ∷ [])) full
+    ∷ numberOf Paired (batch (2104 ∷ []) (0 ∷ []) (49 ∷ []) (0 ∷ [])) full
+    ∷ numberOf Paired (startsAt 2104 48) full
+    ∷ numberOf Single (startsAt 16 24) (three (area 16 []) (area 16 []) (area 16 []))
+    ∷ []
+
+-- from the checkpoint before the last window on, saturated
+abbrev startsBeyond : List ℕ
+startsBeyond =
+    numberOf Paired (startsAt 117 139) (beyond 77 99)
+    ∷ numberOf Paired (startsAt (2 ^ 64 - 1) (2 ^ 64 - 1)) (beyond (2 ^ 64 - 8) (2 ^ 64 - 1))
     ∷ []
 
 -- ---- the order in a record: each has faults that later tests would find, and an empty body follows
@@ -143,8 +177,11 @@ inOrder =
 
 pub record Computed : Type 0 where
   -- each number in turn, and in the order of a record
-  refusals : numbers ≡ 1 ∷ 2 ∷ 3 ∷ 4 ∷ 5 ∷ 6 ∷ 7 ∷ 8 ∷ 9 ∷ 10 ∷ 11 ∷ 12 ∷ 13 ∷ 14 ∷ 15 ∷ 16 ∷ 17 ∷ 22 ∷ []
+  refusals : numbers ≡ 1 ∷ 2 ∷ 3 ∷ 4 ∷ 5 ∷ 6 ∷ 7 ∷ 8 ∷ 9 ∷ 10 ∷ 11 ∷ 12 ∷ 13 ∷ 14 ∷ 15 ∷ 16 ∷ 17 ∷ 22 ∷ 23 ∷ 24 ∷ []
   ordered : inOrder ≡ 8 ∷ 22 ∷ 9 ∷ 10 ∷ 11 ∷ 12 ∷ []
+  -- a batch that carries on, or does not
+  carried : starts ≡ 7 ∷ 0 ∷ 17 ∷ 23 ∷ 24 ∷ 13 ∷ 13 ∷ []
+  carried-beyond : startsBeyond ≡ 13 ∷ 13 ∷ []
   -- an empty body, ragged ones shorter and longer than a stride, the longest, and one past it
   told-apart : map stridesRefusal (0 ∷ 1 ∷ 7 ∷ 8 ∷ 12 ∷ (2 ^ 35 - 8) ∷ 2 ^ 35 ∷ []) ≡ 22 ∷ 9 ∷ 9 ∷ 0 ∷ 9 ∷ 0 ∷ 10 ∷ []
   -- create stores three lengths; a refusal leaves all as it was
@@ -157,9 +194,9 @@ pub record Computed : Type 0 where
   append-2 : after Paired 2 two empty ≡ three (area 20 slots2) (area 16 row2) (area 16 [])
   append-4 : call Paired 4 two empty ≡ record { answer = record { number = 0; value = 2 }; buffer = []; areas = full }
   -- the record 1,024 of an append gets its slot, its row, its checkpoint
-  edge-2 : lengths (after Paired 2 last edge) ≡ record { slots = 2064; rows = 16; checkpoints = 16 }
-  edge-3 : lengths (after Paired 3 last edge) ≡ record { slots = 2064; rows = 32; checkpoints = 16 }
-  edge-4 : (after Paired 4 last edge) .checkpoints ≡ area 32 (bytes 8 (16 + 1023 * 40 + 2048) ++ bytes 8 (16 + 1024 * 40))
+  edge-2 : lengths (stored Paired 2 last edge) ≡ record { slots = 2064; rows = 16; checkpoints = 16 }
+  edge-3 : lengths (stored Paired 3 last edge) ≡ record { slots = 2064; rows = 32; checkpoints = 16 }
+  edge-4 : (stored Paired 4 last edge) .checkpoints ≡ area 32 (bytes 8 (16 + 1023 * 40 + 2048) ++ bytes 8 (16 + 1024 * 40))
   -- a truncation drops the row before the slot
   truncate-1 : after Paired 1 (truncate 1) full ≡ full
   truncate-2 : after Paired 2 (truncate 1) full ≡ three (area 20 slots2) (area 16 row2) (area 16 [])
@@ -202,10 +239,12 @@ pub record Computed : Type 0 where
   locates-plain : crossing (wordsFor Paired high) (2 ^ 64 - 1) 1025 ≡ located 1025 1 0
 
 pub computed : Computed
-unfolding number bytes numberAt store answer counted storeLength storePast pieces fill published stridesRefusal slot needsRow inline slotAt checkpointRule row rowNumber rowValue rowList ascending lastNumber rowsUpTo rowFor hasRow lookup slotValue matches cuts cutFor sizes count valueOf bodyAfter spanAfter zipped entries uneven spanless breaks entryRefusal entriesRefusal endPast batchRefusal table step run differing truncatePlaces nextRow holdsNext cutRule ruledCount ruled openPlaces ragged openRefusal stores anyStores settled checkpoint gather rowOf checkpointOf staged newEnd newEnds appendPlaces sumAfter allAfter lookupAt has valueIn valueAt stridesAfter spansAfter checkpointAt windowEnd lookedAt within rowMissing anyMissing words wordsFor answered found bodySum spanSum checkpointSound sound unlessRefused tooSmall unread isOpening refusal places value lent buffer areasAfter call createPlaces create audit flatten firstAfter wholeRefusal holds crossing spanAmong spanAt
+unfolding number bytes numberAt store answer counted storeLength storePast pieces fill published stridesRefusal slot needsRow inline slotAt checkpointRule row rowNumber rowValue rowList ascending lastNumber rowsUpTo rowFor hasRow lookup slotValue matches cuts cutFor sizes count valueOf bodyAfter spanAfter zipped entries uneven spanless breaks entryRefusal entriesRefusal startRefusal endPast batchRefusal table step run differing truncatePlaces nextRow holdsNext cutRule ruledCount ruled openPlaces ragged openRefusal stores anyStores settled checkpoint gather rowOf checkpointOf staged newEnd newEnds appendPlaces sumAfter allAfter lookupAt has valueIn valueAt stridesAfter spansAfter checkpointAt windowEnd lookedAt within rowMissing anyMissing words wordsFor answered found bodyRead spanRead endRead bodySum spanSum checkpointSound sound unlessRefused tooSmall unread isOpening refusal places value lent buffer areasAfter call createPlaces create audit flatten firstAfter wholeRefusal holds crossing spanAmong spanAt
 computed = record {
   refusals = refl;
   ordered = refl;
+  carried = refl;
+  carried-beyond = refl;
   told-apart = refl;
   creates = refl;
   refuses = refl;

@@ -1,14 +1,14 @@
 -- Bytes 0 to 7 of an area are neither read nor written: whatever takes bytes looks from byte 8 on, or past an area's end.
 -- An area may be of any length: one under 16 bytes counts as its length, past which there is nothing.
 use Prim.Native.Nat.{ℕ, zero, suc, _+_, _-_, _*_, _≤_, min}
-use mathlib.Core.Path.{_≡_, refl, ap, _∙_, fun-ext}
+use mathlib.Core.Path.{_≡_, refl, ap, _∙_, subst, fun-ext}
 use mathlib.Core.List.{List, [], _∷_}
 use native.Mathlib.Nat.{add-sub-of-le}
 use native.Mathlib.Omega.{arith}
 use lib.ListN.{length, take, drop}
 use lib.Seq.{drop-drop}
 use Rattle.loc_leaf.specs.declared.Kind.{Kind}
-use Rattle.loc_leaf.specs.declared.Kind.the-variants.{Paired}
+use Rattle.loc_leaf.specs.declared.Kind.the-variants.{Paired, Single}
 use Rattle.loc_leaf.specs.Bytes.{Bytes, bytes, numberAt, store}
 use Rattle.loc_leaf.specs.Answers.{refuse, answer}
 use Rattle.loc_leaf.specs.Area.{counted, storeLength, storePast, fill, published}
@@ -21,7 +21,7 @@ use Rattle.loc_leaf.proofs.AreaLaws.{take-min, drop-min, length-storePast}
 use Rattle.loc_calls.specs.Areas.{Three, each, Areas, sizes, count}
 use Rattle.loc_calls.specs.Table.{Call, opening, append, truncate, read}
 use Rattle.loc_calls.specs.Stores.{Place, keep, slotLength, rowLength, checkpointLength, write, step, run, differing, truncatePlaces, nextRow, holdsNext, cutRule, ruledCount, ruled, openPlaces, ragged, openRefusal, settled, newEnd, newEnds, appendPlaces}
-use Rattle.loc_calls.specs.Reading.{lookupAt, valueAt, stridesAfter, spansAfter, checkpointAt, windowEnd, rowMissing, anyMissing, wordsFor}
+use Rattle.loc_calls.specs.Reading.{lookupAt, valueAt, stridesAfter, spansAfter, checkpointAt, windowEnd, rowMissing, anyMissing, wordsFor, bodyRead, spanRead, endRead}
 use Rattle.loc_calls.specs.Audit.{bodySum, spanSum, checkpointSound, sound}
 use Rattle.loc_calls.specs.SpanAt.{spanAmong, spanAt, spanAtOutcome}
 use Rattle.loc_calls.specs.Calls.{unlessRefused, tooSmall, firstRefusal, wholeRefusal, unread, refusal, places, buffer, areasAfter, call, createPlaces, create, audit}
@@ -212,6 +212,16 @@ module _ (k : Kind) {a b : Areas} (h : Parts a b) where
   unfolding wordsFor stridesAfter spansAfter valueAt
   words-same = fun-ext (λ id. rw (count-same k h, lookup-same, window-same) refl)
 
+  span-read-same : (j : Kind) → k ≡ j → spanRead k a ≡ spanRead k b
+  unfolding spanRead spansAfter valueAt
+  span-read-same Paired e =
+      rw (e, count-same k h, subst (λ (j : Kind). windowEnd j a ≡ windowEnd j b) e window-same, subst (λ (j : Kind). lookupAt j a ≡ lookupAt j b) e lookup-same) refl
+  span-read-same Single e = rw e refl
+
+  end-read-same : endRead k a ≡ endRead k b
+  unfolding endRead rowMissing bodyRead stridesAfter valueAt
+  end-read-same = rw (span-read-same k refl, count-same k h, lookup-same, window-same) refl
+
   checkpointSound-same : checkpointSound k a ≡ checkpointSound k b
   unfolding checkpointSound bodySum spanSum stridesAfter spansAfter valueAt
   checkpointSound-same = fun-ext (λ w. rw (count-same k h, lookup-same, window-same) refl)
@@ -231,7 +241,7 @@ module _ (k : Kind) {a b : Areas} (h : Parts a b) where
 
   refusal-same : (c : Call) → refusal k c a ≡ refusal k c b
   unfolding refusal
-  refusal-same c = rw (small-same h, openRefusal-same, settled-same, count-same k h, ends-same, same-sizes h, unread-same c) refl
+  refusal-same c = rw (small-same h, openRefusal-same, settled-same, count-same k h, end-read-same, ends-same, same-sizes h, unread-same c) refl
 
   places-same : (c : Call) → places k c a ≡ places k c b
   unfolding places appendPlaces differing newEnd

@@ -11,6 +11,7 @@ pub mod Batches
 pub mod Appending
 pub mod Bounds
 pub mod Reading
+pub mod Ends
 pub mod Audited
 pub mod Lowest
 pub mod Located

@@ -7,11 +7,11 @@ use mathlib.Core.List.{List}
 use Rattle.loc_leaf.specs.declared.Kind.{Kind}
 use Rattle.loc_leaf.specs.Answers.{refuse, _orElse_, answer}
 use Rattle.loc_leaf.proofs.Refusals.{orElse-assoc}
-use Rattle.loc_calls.specs.Areas.{Areas, sizes, count}
-use Rattle.loc_calls.specs.Table.{Call, read, table}
-use Rattle.loc_calls.specs.Stores.{run, settled, newEnds}
+use Rattle.loc_calls.specs.Areas.{Areas, count}
+use Rattle.loc_calls.specs.Table.{Call, read}
+use Rattle.loc_calls.specs.Stores.{run, settled}
 use Rattle.loc_calls.specs.Reading.{wordsFor, answered, found}
-use Rattle.loc_calls.specs.Calls.{unlessRefused, tooSmall, firstRefusal, unread, isOpening, refusal, places, value, lent, buffer, areasAfter, call}
+use Rattle.loc_calls.specs.Calls.{unlessRefused, tooSmall, firstRefusal, unread, isOpening, tableOf, refusal, places, value, lent, buffer, areasAfter, call}
 use Rattle.loc_calls.specs.Promises.{Stored, Read}
 
 module _ (k : Kind) (s : ℕ) (c : Call) (a : Areas) where
@@ -26,10 +26,10 @@ module _ (k : Kind) (s : ℕ) (c : Call) (a : Areas) where
 
 -- 1, then 6, then the table and 17
 pub refusal-after : (k : Kind) (c : Call) (a : Areas) (n : ℕ) → isOpening c ≡ false → n ≡ firstRefusal k a
-    → refusal k c a ≡ n orElse (table k (count a) (newEnds k a) (sizes a) c orElse refuse (unread k a c) 17)
+    → refusal k c a ≡ n orElse (tableOf k a c orElse refuse (unread k a c) 17)
 unfolding refusal
 refusal-after k c a n h e =
-    rw (h, e) (sym (orElse-assoc (refuse (tooSmall a) 1) (refuse (not (settled k a)) 6) (table k (count a) (newEnds k a) (sizes a) c orElse refuse (unread k a c) 17)))
+    rw (h, e) (sym (orElse-assoc (refuse (tooSmall a) 1) (refuse (not (settled k a)) 6) (tableOf k a c orElse refuse (unread k a c) 17)))
 
 module _ (k : Kind) (a : Areas) (ids out : List ℕ) where
   pub read-refused : (n : ℕ) → refusal k (read ids out) a ≡ n → (n ≡ 0 → ⊥) → Read (call k 0 (read ids out) a) (record { number = n; value = 0 }) out

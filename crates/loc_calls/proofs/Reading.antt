@@ -173,7 +173,7 @@ module _ (k : Kind) (a : Areas) (E : List Entry) (s : Full k a E) where
   looked-inside Paired id t = omega (arith, leb-true id (length E) (both-right (ltb 0 id) (leb id (length E)) t), ltb-true 0 id (both-left (ltb 0 id) (leb id (length E)) t))
   looked-inside Single id t = omega (arith, leb-true id (length E) (both-right (ltb 0 id) (leb id (length E)) t), ltb-true 0 id (both-left (ltb 0 id) (leb id (length E)) t))
 
-  missing-none : (id : ℕ) → rowMissing k a id ≡ false
+  pub missing-none : (id : ℕ) → rowMissing k a id ≡ false
   unfolding rowMissing
   missing-none id = rw (count-is k a E _ _ s) (go (is? (within (length E) id)))
     where

@@ -18,11 +18,11 @@ use Rattle.loc_leaf.specs.Rows.{rowList, ascending}
 use Rattle.loc_leaf.proofs.Booleans.{both-left, both-right}
 use Rattle.loc_leaf.proofs.Refusals.{orElse-holds, refuse-holds}
 use Rattle.loc_calls.specs.Areas.{Three, Areas, sizes, count}
-use Rattle.loc_calls.specs.Table.{Call, opening, append, truncate, read, Entry, bodyAfter, spanAfter, entries, wordWidth, uneven, spanless, breaks, entryRefusal, entriesRefusal, endPast, batchRefusal, table}
+use Rattle.loc_calls.specs.Table.{saturated, Call, opening, append, truncate, read, Entry, bodyAfter, spanAfter, entries, wordWidth, uneven, spanless, breaks, entryRefusal, entriesRefusal, ListEnd, startRefusal, endPast, batchRefusal, table}
 use Rattle.loc_calls.specs.Stores.{ragged, openRefusal, settled, newEnds}
 use Rattle.loc_calls.specs.declared.SpanAt.{SpanAt}
-use Rattle.loc_calls.specs.Reading.{firstAfter, complete, wordsFor}
-use Rattle.loc_calls.specs.Calls.{unlessRefused, tooSmall, firstRefusal, wholeRefusal, unread, isOpening, refusal, call, create, audit}
+use Rattle.loc_calls.specs.Reading.{firstAfter, complete, wordsFor, endRead}
+use Rattle.loc_calls.specs.Calls.{unlessRefused, tooSmall, firstRefusal, wholeRefusal, unread, isOpening, tableOf, refusal, call, create, audit}
 use Rattle.loc_calls.specs.SpanAt.{holds, refusedBy, crossing, spanAmong, spanAt, spanAtOutcome}
 use Rattle.loc_calls.specs.Promises.{Stored}
 use Rattle.loc_calls.specs.Guarantees.{indexCall, creation, auditing, locating, outcome, lentTo, largest, InTable, NumbersOfTable, LeavesAll, RefusalsLeaveAll}
@@ -30,10 +30,16 @@ use Rattle.loc_calls.proofs.Outcomes.{refused}
 
 -- ---- the table's numbers
 
--- what holds of 0, of 7 to 16 and of 22 holds of the number that the table gives
-module _ (P : ℕ → Type 0) (none : P 0) (each : (n : ℕ) → 7 ≤ n → n ≤ 16 → P n) (empty : P 22) where
+-- what holds of 0, of 7 to 16, of 22 to 24 and, where the last record cannot be read, of 17 holds of the number that the table gives
+module _ (P : ℕ → Type 0) (none : P 0) (each : (n : ℕ) → 7 ≤ n → n ≤ 16 → P n) (later : (n : ℕ) → 22 ≤ n → n ≤ 24 → P n) where
+  tested-from : (l u n : ℕ) (b : Bool) → ((n : ℕ) → l ≤ n → n ≤ u → P n) → (leb l n && leb n u) ≡ true → P (refuse b n)
+  tested-from l u n b p h = refuse-holds P n b none (p n (leb-true l n (both-left (leb l n) (leb n u) h)) (leb-true n u (both-right (leb l n) (leb n u) h)))
+
   tested : (n : ℕ) (b : Bool) → (leb 7 n && leb n 16) ≡ true → P (refuse b n)
-  tested n b h = refuse-holds P n b none (each n (leb-true 7 n (both-left (leb 7 n) (leb n 16) h)) (leb-true n 16 (both-right (leb 7 n) (leb n 16) h)))
+  tested n b h = tested-from 7 16 n b each h
+
+  tested-later : (n : ℕ) (b : Bool) → (leb 22 n && leb n 24) ≡ true → P (refuse b n)
+  tested-later n b h = tested-from 22 24 n b later h
 
   breaks-holds : (e : Entry) (es : List Entry) → P (breaks e es)
   unfolding breaks
@@ -42,7 +48,7 @@ module _ (P : ℕ → Type 0) (none : P 0) (each : (n : ℕ) → 7 ≤ n → n �
 
   strides-holds : (len : ℕ) → P (stridesRefusal len)
   unfolding stridesRefusal
-  strides-holds len = orElse-holds P (refuse-holds P 22 (eqb len 0) none empty) (orElse-holds P (tested 9 (not (eqb (len % 8) 0)) refl) (tested 10 (leb (2 ^ 32) (len / 8)) refl))
+  strides-holds len = orElse-holds P (tested-later 22 (eqb len 0) refl) (orElse-holds P (tested 9 (not (eqb (len % 8) 0)) refl) (tested 10 (leb (2 ^ 32) (len / 8)) refl))
 
   entries-holds : (k : Kind) (es : List Entry) → P (entriesRefusal k es)
   unfolding entriesRefusal entryRefusal
@@ -50,17 +56,28 @@ module _ (P : ℕ → Type 0) (none : P 0) (each : (n : ℕ) → 7 ≤ n → n �
   entries-holds k (e ∷ es) =
       orElse-holds P (orElse-holds P (tested 8 (spanless k e) refl) (orElse-holds P (strides-holds (e .len)) (breaks-holds e es))) (entries-holds k es)
 
-  batch-holds : (k : Kind) (ends size : Three ℕ) (es : List Entry) → P (batchRefusal k ends size es)
-  unfolding batchRefusal
-  batch-holds k ends size [] = none
-  batch-holds k ends size (e ∷ es) = orElse-holds P (entries-holds k (e ∷ es)) (tested 13 (endPast ends size) refl)
+  unread-holds : (b : Bool) → (b ≡ true → P 17) → P (refuse b 17)
+  unread-holds true h = h refl
+  unread-holds false h = none
 
-  pub table-holds : (k : Kind) (n : ℕ) (ends : List Entry → Three ℕ) (size : Three ℕ) (c : Call) → P (table k n ends size c)
-  unfolding table
-  table-holds k n ends size opening = none
-  table-holds k n ends size (append b) = orElse-holds P (tested 7 (uneven k b) refl) (batch-holds k (ends (entries k b)) size (entries k b))
-  table-holds k n ends size (truncate w) = tested 14 (ltb n w) refl
-  table-holds k n ends size (read ids out) = orElse-holds P (tested 15 (ltb 1024 (length ids)) refl) (tested 16 (ltb (length out) (wordWidth k * length ids)) refl)
+  module _ (end : ListEnd) (missing : end .unread ≡ true → P 17) where
+    start-holds : (e : Entry) → P (startRefusal end e)
+    unfolding startRefusal
+    start-holds e =
+        orElse-holds P (unread-holds (end .unread) missing)
+        (orElse-holds P (tested-later 23 (not (eqb (e .start) (saturated (end .body)))) refl) (tested-later 24 (not (eqb (e .spanStart) (saturated (end .span)))) refl))
+
+    batch-holds : (k : Kind) (ends size : Three ℕ) (es : List Entry) → P (batchRefusal k end ends size es)
+    unfolding batchRefusal
+    batch-holds k ends size [] = none
+    batch-holds k ends size (e ∷ es) = orElse-holds P (start-holds e) (orElse-holds P (entries-holds k (e ∷ es)) (tested 13 (endPast ends size) refl))
+
+    pub table-holds : (k : Kind) (n : ℕ) (ends : List Entry → Three ℕ) (size : Three ℕ) (c : Call) → P (table k n end ends size c)
+    unfolding table
+    table-holds k n ends size opening = none
+    table-holds k n ends size (append b) = orElse-holds P (tested 7 (uneven k b) refl) (batch-holds k (ends (entries k b)) size (entries k b))
+    table-holds k n ends size (truncate w) = tested 14 (ltb n w) refl
+    table-holds k n ends size (read ids out) = orElse-holds P (tested 15 (ltb 1024 (length ids)) refl) (tested 16 (ltb (length out) (wordWidth k * length ids)) refl)
 
 -- ---- every call's number
 
@@ -73,8 +90,8 @@ test n b h = refuse-holds Numbered n b (omega arith) (leb-true n largest h)
 pub first : {x y : ℕ} → x ≤ largest → y ≤ largest → (x orElse y) ≤ largest
 first p q = orElse-holds Numbered p q
 
-table-in : (k : Kind) (n : ℕ) (ends : List Entry → Three ℕ) (size : Three ℕ) (c : Call) → Numbered (table k n ends size c)
-table-in = table-holds Numbered (omega arith) (λ n g l. omega arith) (omega arith)
+table-in : (k : Kind) (a : Areas) (c : Call) → Numbered (tableOf k a c)
+table-in k a c = table-holds Numbered (omega arith) (λ n g l. omega arith) (λ n g l. omega arith) (endRead k a) (λ h. omega arith) k (count a) (newEnds k a) (sizes a) c
 
 open-in : (k : Kind) (a : Areas) → Numbered (openRefusal k a)
 unfolding openRefusal
@@ -96,9 +113,9 @@ refusal-in : (k : Kind) (c : Call) (a : Areas) → Numbered (refusal k c a)
 unfolding refusal
 refusal-in k c a = first (small-in a) (go (isOpening c))
   where
-    go : (b : Bool) → Numbered (cond b (openRefusal k a) (refuse (not (settled k a)) 6 orElse table k (count a) (newEnds k a) (sizes a) c orElse refuse (unread k a c) 17))
+    go : (b : Bool) → Numbered (cond b (openRefusal k a) (refuse (not (settled k a)) 6 orElse tableOf k a c orElse refuse (unread k a c) 17))
     go true = open-in k a
-    go false = first (unsettled-in k a) (first (table-in k (count a) (newEnds k a) (sizes a) c) (test 17 (unread k a c) refl))
+    go false = first (unsettled-in k a) (first (table-in k a c) (test 17 (unread k a c) refl))
 
 -- the number of an answer
 pub number-is : (n v : ℕ) → (answer n v) .number ≡ n

@@ -2,7 +2,7 @@
 -- An opening of areas that hold a list, whole or not, is never refused.
 use Prim.Native.Nat.{ℕ, zero, suc, _+_, _*_, _/_, _≤_}
 use mathlib.Core.Path.{_≡_, refl, sym, ap, _∙_}
-use mathlib.Core.Bool.{true, false, not}
+use mathlib.Core.Bool.{true, false}
 use mathlib.Core.List.{List, [], _∷_}
 use native.Mathlib.Nat.{le-refl, not-suc-le-zero, le-of-suc-le-suc}
 use native.Mathlib.Omega.{arith}
@@ -16,10 +16,10 @@ use Rattle.loc_leaf.specs.Kind.{rowWidth, checkpointWidth}
 use Rattle.loc_leaf.specs.Slot.{checkpointRule}
 use Rattle.loc_leaf.specs.Rows.{rowList, rowsUpTo}
 use Rattle.loc_leaf.proofs.AreaLaws.{length-storeLength, length-storePast}
-use Rattle.loc_calls.specs.Areas.{Areas, sizes, count}
-use Rattle.loc_calls.specs.Table.{Entry, Call, opening, append, truncate, read, table}
-use Rattle.loc_calls.specs.Stores.{Place, keep, slotLength, rowLength, checkpointLength, write, step, run, differing, truncatePlaces, ruledCount, ruled, openPlaces, openRefusal, stores, anyStores, settled, gather, newEnds, appendPlaces}
-use Rattle.loc_calls.specs.Calls.{unlessRefused, tooSmall, firstRefusal, unread, isOpening, refusal, places, placeCount, createPlaces, create}
+use Rattle.loc_calls.specs.Areas.{Areas, sizes}
+use Rattle.loc_calls.specs.Table.{Entry, Call, opening, append, truncate, read}
+use Rattle.loc_calls.specs.Stores.{Place, keep, slotLength, rowLength, checkpointLength, write, step, run, differing, truncatePlaces, ruledCount, ruled, openPlaces, openRefusal, stores, anyStores, settled, gather, appendPlaces}
+use Rattle.loc_calls.specs.Calls.{unlessRefused, tooSmall, firstRefusal, unread, isOpening, tableOf, refusal, places, placeCount, createPlaces, create}
 use Rattle.loc_calls.proofs.Holds.{holds-ragged, fresh}
 use Rattle.loc_calls.proofs.Gathered.{slotsOf, rowsOf, checkpointsOf, AllValid, rows-ascend, ascend-take, rowsIn-all}
 use Rattle.loc_calls.proofs.State.{State, count-is, few, row-list, checkpoint-fill, up-to, no-false-cut}
@@ -123,7 +123,7 @@ module _ (k : Kind) (a : Areas) (E : List Entry) (s : Full k a E) where
   is-settled = rw (opens k a E _ _ s, nothing-to-open) refl
 
   -- a call that is no opening is refused by the table and, a reading, by 17
-  pub refusal-is : (c : Call) → isOpening c ≡ false → refusal k c a ≡ table k (count a) (newEnds k a) (sizes a) c orElse refuse (unread k a c) 17
+  pub refusal-is : (c : Call) → isOpening c ≡ false → refusal k c a ≡ tableOf k a c orElse refuse (unread k a c) 17
   unfolding refusal
   refusal-is c h = rw (not-small k a E _ _ s, h, is-settled) refl
 

@@ -11,7 +11,7 @@ use Rattle.loc_leaf.specs.Answers.{refuse, _orElse_, answer}
 use Rattle.loc_calls.specs.Areas.{each, some, Areas, sizes, count}
 use Rattle.loc_calls.specs.Table.{Call, opening, append, truncate, read, entries, table}
 use Rattle.loc_calls.specs.Stores.{Place, slotLength, rowLength, checkpointLength, run, truncatePlaces, openPlaces, openRefusal, settled, staged, appendPlaces, newEnds}
-use Rattle.loc_calls.specs.Reading.{complete, anyMissing, wordsFor, answered, found}
+use Rattle.loc_calls.specs.Reading.{complete, anyMissing, wordsFor, answered, found, endRead}
 use Rattle.loc_calls.specs.Audit.{sound}
 
 -- number and value, the whole answer buffer, all three areas
@@ -52,12 +52,16 @@ isOpening (append b) = false
 isOpening (truncate w) = false
 isOpening (read ids out) = false
 
+-- the table of these areas
+abbrev pub tableOf : Kind → Areas → Call → ℕ
+tableOf k a c = table k (count a) (endRead k a) (newEnds k a) (sizes a) c
+
 -- order: 1; then 2 to 5 as listed, or 6; then the table; reading: 15, 16, 17
 unfoldable pub refusal : Kind → Call → Areas → ℕ
 refusal k c a =
     refuse (tooSmall a) 1
     orElse cond (isOpening c) (openRefusal k a)
-    (refuse (not (settled k a)) 6 orElse table k (count a) (newEnds k a) (sizes a) c orElse refuse (unread k a c) 17)
+    (refuse (not (settled k a)) 6 orElse tableOf k a c orElse refuse (unread k a c) 17)
 
 -- ---- what an accepted call does
 

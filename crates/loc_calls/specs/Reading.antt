@@ -1,4 +1,4 @@
--- What a reading finds (document 01, "create_loc.rs and the rest": reading; "What each call gives").
+-- What a reading finds, and where by it the list ends (document 01, "create_loc.rs and the rest": reading; "What each call gives"; document 02, Item 5).
 -- Each wanted number is taken by itself; the order in which the code takes them is its own.
 use Prim.Native.Nat.{ℕ, zero, suc, _+_, _-_, _*_, min}
 use mathlib.Core.Bool.{Bool, true, false, cond, not, _&&_, _||_}
@@ -16,7 +16,7 @@ use Rattle.loc_leaf.specs.Kind.{checkpointWidth, windowOf, withinWindow}
 use Rattle.loc_leaf.specs.Slot.{slotAt}
 use Rattle.loc_leaf.specs.Rows.{rowList, slotValue, valueIn}
 use Rattle.loc_calls.specs.Areas.{Areas, count}
-use Rattle.loc_calls.specs.Table.{wordWidth, saturated}
+use Rattle.loc_calls.specs.Table.{wordWidth, saturated, ListEnd}
 
 -- ---- over the n numbers that follow m
 
@@ -116,3 +116,18 @@ answered f ids out = flatten (map f ids) ++ drop (length (flatten (map f ids))) 
 unfoldable pub found : ℕ → List ℕ → ℕ
 found n [] = 0
 found n (id ∷ ids) = cond (within n id) (suc (found n ids)) (found n ids)
+
+-- ---- where the list ends
+
+-- the sums over the last record's window, with it, from the checkpoint before the window on: 16 where there is no record
+unfoldable pub bodyRead : Kind → Areas → ℕ
+bodyRead k a = windowEnd k a 0 (windowOf (count a)) + 8 * stridesAfter k a (before (count a)) (count a - before (count a))
+
+-- a single index has no spans
+unfoldable pub spanRead : Kind → Areas → ℕ
+spanRead Paired a = windowEnd Paired a 8 (windowOf (count a)) + 8 * spansAfter Paired a (before (count a)) (count a - before (count a))
+spanRead Single a = 16
+
+-- as a reading of the last record gives it; the checkpoint behind a full window plays no part
+unfoldable pub endRead : Kind → Areas → ListEnd
+endRead k a = record { unread = rowMissing k a (count a); body = bodyRead k a; span = spanRead k a }

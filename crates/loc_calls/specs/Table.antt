@@ -1,4 +1,4 @@
--- The calls, and the table of refusals that count, ends and sizes decide: 7 to 16 and 22 (document 01, "What each call gives"; document 02, Item 3).
+-- The calls, and the table of refusals that count, ends and sizes decide: 7 to 16, append's 17, 22 to 24 (document 01, "What each call gives"; document 02, Items 3 and 5).
 -- The index and the book both refuse by this table.
 use Prim.Native.Nat.{ℕ, _+_, _-_, _*_, _/_, _^_, min}
 use mathlib.Core.Bool.{Bool, false, not, _&&_}
@@ -95,19 +95,33 @@ unfoldable pub entriesRefusal : Kind → List Entry → ℕ
 entriesRefusal k [] = 0
 entriesRefusal k (e ∷ es) = entryRefusal k e es orElse entriesRefusal k es
 
+-- where a list of records ends: the last record's start plus length in each stream, not saturated yet; 16 in a stream that has none
+pub record ListEnd : Type 0 where
+  -- the last record cannot be read
+  pub unread : Bool
+  pub body : ℕ
+  pub span : ℕ
+
+-- 17: the last record cannot be read; 23: the first body start is not where the list ends; 24: the same for spans (paired)
+unfoldable pub startRefusal : ListEnd → Entry → ℕ
+startRefusal end e =
+    refuse (end .unread) 17
+    orElse refuse (not (eqb (e .start) (saturated (end .body)))) 23
+    orElse refuse (not (eqb (e .spanStart) (saturated (end .span)))) 24
+
 -- 13: a new end lies past its area
 unfoldable pub endPast : Three ℕ → Three ℕ → Bool
 endPast ends size = some (each₂ ltb size ends)
 
--- an empty batch accepted, record by record 8, 22, 9 to 12, then 13
-unfoldable pub batchRefusal : Kind → Three ℕ → Three ℕ → List Entry → ℕ
-batchRefusal k ends size [] = 0
-batchRefusal k ends size (e ∷ es) = entriesRefusal k (e ∷ es) orElse refuse (endPast ends size) 13
+-- an empty batch accepted; 17, 23, 24; record by record 8, 22, 9 to 12; then 13
+unfoldable pub batchRefusal : Kind → ListEnd → Three ℕ → Three ℕ → List Entry → ℕ
+batchRefusal k end ends size [] = 0
+batchRefusal k end ends size (e ∷ es) = startRefusal end e orElse entriesRefusal k (e ∷ es) orElse refuse (endPast ends size) 13
 
--- given the count, the ends that a batch would reach, and the sizes;
+-- given the count, where the list ends, the ends that a batch would reach, and the sizes;
 -- 14: truncation past the count; 15: more than 1,024 numbers; 16: answer buffer too short
-unfoldable pub table : Kind → ℕ → (List Entry → Three ℕ) → Three ℕ → Call → ℕ
-table k n ends size opening = 0
-table k n ends size (append b) = refuse (uneven k b) 7 orElse batchRefusal k (ends (entries k b)) size (entries k b)
-table k n ends size (truncate w) = refuse (ltb n w) 14
-table k n ends size (read ids out) = refuse (ltb 1024 (length ids)) 15 orElse refuse (ltb (length out) (wordWidth k * length ids)) 16
+unfoldable pub table : Kind → ℕ → ListEnd → (List Entry → Three ℕ) → Three ℕ → Call → ℕ
+table k n end ends size opening = 0
+table k n end ends size (append b) = refuse (uneven k b) 7 orElse batchRefusal k end (ends (entries k b)) size (entries k b)
+table k n end ends size (truncate w) = refuse (ltb n w) 14
+table k n end ends size (read ids out) = refuse (ltb 1024 (length ids)) 15 orElse refuse (ltb (length out) (wordWidth k * length ids)) 16

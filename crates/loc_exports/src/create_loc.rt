@@ -59,7 +59,7 @@ pub extern "C" fn create_loc_open_run(
     a.number
 }
 
-// Append: 1, 6; 7 to 13 and 22.
+// Append: 1, 6; 7 to 13, 17 and 22 to 24.
 #[no_mangle]
 pub extern "C" fn create_loc_append(
     slots: &mut [u8],
@@ -117,7 +117,7 @@ pub extern "C" fn create_loc_append_run(
     a.number
 }
 
-// A listing appended: 1, 6; 18 to 20; 8 to 13 and 22.
+// A listing appended: 1, 6; 18 to 20; 8 to 13, 17 and 22 to 24.
 #[no_mangle]
 pub extern "C" fn create_loc_append_listing(
     slots: &mut [u8],

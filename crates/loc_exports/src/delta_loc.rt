@@ -58,7 +58,7 @@ pub extern "C" fn delta_loc_open_run(
     a.number
 }
 
-// Append: 1, 6; 7 to 13 and 22.
+// Append: 1, 6; 7, 9 to 11, 13, 17, 22 and 23.
 #[no_mangle]
 pub extern "C" fn delta_loc_append(
     slots: &mut [u8],

@@ -17,10 +17,10 @@ use Rattle.loc_leaf.specs.Bytes.{Bytes}
 use Rattle.loc_leaf.specs.Answers.{refuse, _orElse_, answer}
 use Rattle.loc_leaf.proofs.Booleans.{is?, both-left, both-right}
 use Rattle.loc_calls.specs.Areas.{Three, Areas, sizes, count}
-use Rattle.loc_calls.specs.Table.{Entry, Batch, Call, opening, append, truncate, read, entries, uneven, entriesRefusal, endPast, batchRefusal, wordWidth, table}
+use Rattle.loc_calls.specs.Table.{Entry, Batch, Call, opening, append, truncate, read, entries, uneven, entriesRefusal, startRefusal, endPast, batchRefusal, wordWidth, table}
 use Rattle.loc_calls.specs.Stores.{write, step, run, newEnds, staged}
-use Rattle.loc_calls.specs.Reading.{within, wordsFor}
-use Rattle.loc_calls.specs.Calls.{unlessRefused, isOpening, refusal, places, placeCount, value, buffer, areasAfter, call}
+use Rattle.loc_calls.specs.Reading.{within, wordsFor, endRead}
+use Rattle.loc_calls.specs.Calls.{unlessRefused, isOpening, tableOf, refusal, places, placeCount, value, buffer, areasAfter, call}
 use Rattle.loc_calls.proofs.Gathered.{AllValid, valid-append}
 use Rattle.loc_calls.proofs.Settled.{sizes-step, sizes-run, opening-accepted, refusal-is}
 use Rattle.loc_calls.proofs.Chains.{lens, spans, Chained, chained-at, Good}
@@ -28,8 +28,9 @@ use Rattle.loc_leaf.proofs.Refusals.{orElse-right, orElse-zero, refuse-zero}
 use Rattle.loc_calls.proofs.Batches.{SpansOf, all-valid, Fits, batch-tested, batch-fits}
 use Rattle.loc_calls.proofs.Appending.{new-ends, written-full}
 use Rattle.loc_calls.proofs.Reading.{none, entryWords, words-are, none-unread}
-use Rattle.loc_history.specs.Book.{Rec, recOf, records, bookEnds, bookRefusal, bookNext, recordWords, bookWords, bookReply, bookTorn}
-use Rattle.loc_history.specs.History.{finished, torn, bookAfter, Follows, Narrow, LawfulCall, BeforeEnd}
+use Rattle.loc_calls.proofs.Ends.{end-read}
+use Rattle.loc_history.specs.Book.{Rec, recOf, records, bookEnds, listEnd, bookRefusal, bookNext, recordWords, bookWords, bookReply, bookTorn}
+use Rattle.loc_history.specs.History.{finished, torn, bookAfter, EndsBelow, Narrow, LawfulCall, BeforeEnd}
 use Rattle.loc_history.proofs.BookLaws.{map-take, body-end, span-end, ends-are}
 use Rattle.loc_history.proofs.Steady.{Steady, Pending, steady-pending, open-torn, open-done, same-length, count-book, cut-done, cut-torn, add-done, add-torn}
 use Rattle.loc_history.proofs.Following.{batch-spans, good-more}
@@ -44,17 +45,22 @@ module _ (k : Kind) (a : Areas) (L : List Rec) (t : Steady k a L) where
       ∙ sym (ends-are k (t .E ++ es) (valid-append k (t .E) es (t .full .valid) v))
       ∙ ap (bookEnds k) (map-append recOf (t .E) es ∙ ap (λ (l : List Rec). l ++ map recOf es) (sym (t .is)))
 
-  batch-same : (es : List Entry) → SpansOf k es → batchRefusal k (newEnds k a es) (sizes a) es ≡ batchRefusal k (bookEnds k (L ++ map recOf es)) (sizes a) es
+  -- the index ends where the book does
+  end-same : endRead k a ≡ listEnd L
+  unfolding listEnd
+  end-same = end-read k a (t .E) (t .full) (t .good) ∙ rw (t .is, body-end (t .E), span-end (t .E)) refl
+
+  batch-same : (es : List Entry) → SpansOf k es → batchRefusal k (endRead k a) (newEnds k a es) (sizes a) es ≡ batchRefusal k (listEnd L) (bookEnds k (L ++ map recOf es)) (sizes a) es
   unfolding batchRefusal
   batch-same [] n = refl
-  batch-same (e ∷ es) n = go (entriesRefusal k (e ∷ es)) refl
+  batch-same (e ∷ es) n = rw end-same (ap (λ (m : ℕ). startRefusal (listEnd L) e orElse m) (go (entriesRefusal k (e ∷ es)) refl))
     where
       go : (m : ℕ) → entriesRefusal k (e ∷ es) ≡ m
           → (entriesRefusal k (e ∷ es) orElse refuse (endPast (newEnds k a (e ∷ es)) (sizes a)) 13) ≡ (entriesRefusal k (e ∷ es) orElse refuse (endPast (bookEnds k (L ++ map recOf (e ∷ es))) (sizes a)) 13)
       go zero p = ap (λ (x : Three ℕ). entriesRefusal k (e ∷ es) orElse refuse (endPast x (sizes a)) 13) (new-ends-are (e ∷ es) (all-valid k (e ∷ es) p n))
       go (suc m) p = rw p refl
 
-  table-same : (c : Call) → LawfulCall k (sizes a) L c → table k (count a) (newEnds k a) (sizes a) c ≡ bookRefusal k (sizes a) L c
+  table-same : (c : Call) → LawfulCall k (sizes a) L c → tableOf k a c ≡ bookRefusal k (sizes a) L c
   unfolding table bookRefusal LawfulCall
   table-same opening h = refl
   table-same (append b) h = ap (λ (x : ℕ). refuse (uneven k b) 7 orElse x) (batch-same (entries k b) (batch-spans k b (h .0)))
@@ -65,8 +71,8 @@ module _ (k : Kind) (a : Areas) (L : List Rec) (t : Steady k a L) where
   pub refusal-same : (c : Call) → isOpening c ≡ false → LawfulCall k (sizes a) L c → refusal k c a ≡ bookRefusal k (sizes a) L c
   refusal-same c h l =
       refusal-is k a (t .E) (t .full) c h
-      ∙ ap (λ (b : Bool). table k (count a) (newEnds k a) (sizes a) c orElse refuse b 17) (none-unread k a (t .E) (t .full) c)
-      ∙ orElse-zero (table k (count a) (newEnds k a) (sizes a) c)
+      ∙ ap (λ (b : Bool). tableOf k a c orElse refuse b 17) (none-unread k a (t .E) (t .full) c)
+      ∙ orElse-zero (tableOf k a c)
       ∙ table-same c l
 
   -- a record's words are the book's
@@ -186,24 +192,24 @@ module _ (k : Kind) (a : Areas) (L : List Rec) (p : Pending k a L) where
 
 module _ (k : Kind) (a : Areas) (L : List Rec) (t : Steady k a L) where
   -- an accepted batch
-  module _ (b : Batch) (n : Narrow k (b .spanCounts)) (ok : bookRefusal k (sizes a) L (append b) ≡ 0) (f : Follows k L (entries k b)) where
-    batch-ok : batchRefusal k (newEnds k a (entries k b)) (sizes a) (entries k b) ≡ 0
+  module _ (b : Batch) (n : Narrow k (b .spanCounts)) (ok : bookRefusal k (sizes a) L (append b) ≡ 0) (f : EndsBelow k (L ++ records k b)) where
+    batch-ok : batchRefusal k (endRead k a) (newEnds k a (entries k b)) (sizes a) (entries k b) ≡ 0
     unfolding bookRefusal table
     batch-ok =
         batch-same k a L t (entries k b) (batch-spans k b n)
-        ∙ orElse-right (refuse (uneven k b) 7) (batchRefusal k (bookEnds k (L ++ map recOf (entries k b))) (sizes a) (entries k b)) ok
-
-    tested : entriesRefusal k (entries k b) ≡ 0
-    tested = batch-tested k (newEnds k a (entries k b)) (sizes a) (entries k b) batch-ok
+        ∙ orElse-right (refuse (uneven k b) 7) (batchRefusal k (listEnd L) (bookEnds k (L ++ map recOf (entries k b))) (sizes a) (entries k b)) ok
 
     valid : AllValid k (entries k b)
-    valid = all-valid k (entries k b) tested (batch-spans k b n)
+    valid = all-valid k (entries k b) (batch-tested k (endRead k a) (newEnds k a (entries k b)) (sizes a) (entries k b) batch-ok) (batch-spans k b n)
 
     room : Fits a (staged k (count a) (entries k b))
-    room = batch-fits k a (entries k b) batch-ok
+    room = batch-fits k (endRead k a) a (entries k b) batch-ok
 
     good : Good (t .E ++ entries k b)
-    good = good-more k b (t .E) (t .full .valid) valid (t .good) tested (subst (λ (l : List Rec). Follows k l (entries k b)) (t .is) f)
+    unfolding records
+    good =
+        good-more k (t .E) (entries k b) (newEnds k a (entries k b)) (sizes a) (t .full .valid) valid (t .good)
+        (rw (end-read k a (t .E) (t .full) (t .good)) at batch-ok) (rw (t .is) at f)
 
   -- an accepted truncation
   short-enough : (w : ℕ) → bookRefusal k (sizes a) L (truncate w) ≡ 0 → w ≤ length L

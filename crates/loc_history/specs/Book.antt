@@ -1,7 +1,7 @@
 -- The book (document 01, "Book"): a list of lengths and span counts, what each call answers by it, and what a tear keeps of it.
 -- It never sees the areas.
 use Prim.Native.Nat.{ℕ, zero, suc, _+_, _-_, _*_, _/_}
-use mathlib.Core.Bool.{Bool, cond, _&&_}
+use mathlib.Core.Bool.{Bool, false, cond, _&&_}
 use mathlib.Core.List.{List, [], _∷_, _++_, map}
 use lib.Dec.{leb}
 use lib.ListN.{length, take, getD, replicate}
@@ -13,7 +13,7 @@ use Rattle.loc_leaf.specs.Kind.{rowWidth, checkpointWidth}
 use Rattle.loc_leaf.specs.Slot.{storedAsZero}
 use Rattle.loc_calls.specs.declared.SpanAt.{SpanAt}
 use Rattle.loc_calls.specs.Areas.{Three}
-use Rattle.loc_calls.specs.Table.{Entry, Batch, Call, opening, append, truncate, read, entries, wordWidth, table}
+use Rattle.loc_calls.specs.Table.{Entry, Batch, Call, opening, append, truncate, read, entries, wordWidth, ListEnd, table}
 use Rattle.loc_calls.specs.Reading.{within}
 use Rattle.loc_calls.specs.Calls.{unlessRefused, value, lent, buffer}
 use Rattle.loc_calls.specs.SpanAt.{spanAmong}
@@ -65,11 +65,15 @@ bookEnds k L = record {
   checkpoints = 16 + checkpointWidth k * checkpointCount L;
 }
 
+-- where the list ends; its last record can always be read
+unfoldable pub listEnd : List Rec → ListEnd
+listEnd L = record { unread = false; body = bodyEnd L; span = spanEnd L }
+
 -- ---- answers
 
 -- it refuses by the table, with ends and counts taken from its own list
 unfoldable pub bookRefusal : Kind → Three ℕ → List Rec → Call → ℕ
-bookRefusal k size L c = table k (length L) (λ es. bookEnds k (L ++ map recOf es)) size c
+bookRefusal k size L c = table k (length L) (listEnd L) (λ es. bookEnds k (L ++ map recOf es)) size c
 
 -- append adds the batch, truncation to w keeps the first w, opening keeps all
 unfoldable pub bookNext : Kind → List Rec → Call → List Rec

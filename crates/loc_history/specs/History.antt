@@ -3,7 +3,7 @@
 use Prim.Native.Nat.{ℕ, _+_, _*_, _^_, _≤_, _<_}
 use mathlib.Core.Path.{_≡_}
 use mathlib.Core.Bool.{Bool, true, false}
-use mathlib.Core.List.{List, [], _∷_, _++_, map}
+use mathlib.Core.List.{List, [], _∷_, _++_}
 use lib.ListN.{length, take}
 use Rattle.loc_leaf.specs.declared.Kind.{Kind}
 use Rattle.loc_leaf.specs.declared.Kind.the-variants.{Paired, Single}
@@ -12,10 +12,10 @@ use Rattle.loc_leaf.specs.Answers.{answer}
 use Rattle.loc_leaf.specs.Area.{counted, published}
 use Rattle.loc_leaf.specs.Kind.{rowWidth, checkpointWidth}
 use Rattle.loc_calls.specs.Areas.{Three, each, Areas, sizes}
-use Rattle.loc_calls.specs.Table.{Entry, Batch, Call, opening, append, truncate, read, entries}
+use Rattle.loc_calls.specs.Table.{Entry, Batch, Call, opening, append, truncate, read}
 use Rattle.loc_calls.specs.Stores.{write, step, staged}
 use Rattle.loc_calls.specs.Calls.{unlessRefused, isOpening, refusal, placeCount, call, create, audit}
-use Rattle.loc_history.specs.Book.{Rec, recOf, bodyEnd, spanEnd, bookEnds, bookRefusal, bookNext, Reply, bookReply, appendTorn, truncateTorn, bookTorn}
+use Rattle.loc_history.specs.Book.{Rec, records, bodyEnd, spanEnd, bookEnds, bookRefusal, bookNext, Reply, bookReply, appendTorn, truncateTorn, bookTorn}
 
 -- a call finishes, or is torn between two stores, at its place s;
 -- an append may also be torn inside its byte stores: there, everything past the three old lengths may hold anything.
@@ -73,32 +73,10 @@ bookAtEnd k size L (e ∷ es) = bookAtEnd k size (bookAfter k size L e) es
 
 -- ---- the premises
 
--- where a batch's first record starts, and its spans where paired
-unfoldable pub FirstAt : Kind → ℕ → ℕ → List Entry → Type 0
-FirstAt k body span [] = Unit
-FirstAt Paired body span (e ∷ es) = (e .start ≡ body) × (e .spanStart ≡ span)
-FirstAt Single body span (e ∷ es) = e .start ≡ body
-
--- "starts at 16": so does the first batch of an empty index
-unfoldable pub StartsAt16 : Kind → List Rec → List Entry → Type 0
-StartsAt16 k [] es = FirstAt k 16 16 es
-StartsAt16 k (r ∷ L) es = Unit
-
--- "every batch that is not refused carries on": it starts where the list ends
-unfoldable pub CarriesOn : Kind → List Rec → List Entry → Type 0
-CarriesOn k [] es = Unit
-CarriesOn k (r ∷ L) es = FirstAt k (bodyEnd (r ∷ L)) (spanEnd (r ∷ L)) es
-
--- "ends below 2^64": both streams of the list with the batch (the one, where single)
+-- "ends below 2^64": both streams of the list with a batch that is not refused (the one, where single)
 unfoldable pub EndsBelow : Kind → List Rec → Type 0
 EndsBelow Paired N = (bodyEnd N < 2 ^ 64) × (spanEnd N < 2 ^ 64)
 EndsBelow Single N = bodyEnd N < 2 ^ 64
-
--- the three of a batch that is not refused
-pub record Follows (k : Kind) (L : List Rec) (es : List Entry) : Type 0 where
-  pub starts : StartsAt16 k L es
-  pub carries : CarriesOn k L es
-  pub ends : EndsBelow k (L ++ map recOf es)
 
 -- document 01's lists: "the span counts 32 bits wide" (paired)
 unfoldable pub Narrow : Kind → List ℕ → Type 0
@@ -108,7 +86,7 @@ Narrow Single cs = Unit
 
 unfoldable pub LawfulCall : Kind → Three ℕ → List Rec → Call → Type 0
 LawfulCall k size L opening = Unit
-LawfulCall k size L (append b) = Narrow k (b .spanCounts) × (bookRefusal k size L (append b) ≡ 0 → Follows k L (entries k b))
+LawfulCall k size L (append b) = Narrow k (b .spanCounts) × (bookRefusal k size L (append b) ≡ 0 → EndsBelow k (L ++ records k b))
 LawfulCall k size L (truncate w) = Unit
 LawfulCall k size L (read ids out) = Unit
 

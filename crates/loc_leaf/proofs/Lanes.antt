@@ -87,7 +87,7 @@ shifted-firsts lo hi = refl
 -- ---- lanes
 
 -- the word of four lanes, lowest first
-abbrev lanes : ℕ → ℕ → ℕ → ℕ → ℕ
+abbrev pub lanes : ℕ → ℕ → ℕ → ℕ → ℕ
 lanes a b c d = ((d * 2 ^ 16 + c) * 2 ^ 16 + b) * 2 ^ 16 + a
 
 abbrev word : {m : ℕ} → Four m → ℕ
@@ -225,18 +225,30 @@ module _ (q : Four 2) where
 abbrev raised : Four 256 → Four (2 ^ 16)
 raised x = four (x .a + 255) (x .b + 255) (x .c + 255) (x .d + 255) (omega arith) (omega arith) (omega arith) (omega arith)
 
-zero-lanes : (x y : Four 256) → zeros (word x + byte-mask) (word y + byte-mask) ≡ word (bits x y)
-zero-lanes x y =
+-- the bits that both bytes of a record reach
+carry-lanes : (x y : Four 256)
+    → bitAnd (bitAnd (word x + byte-mask) (word y + byte-mask)) carry-mask
+    ≡ lanes (256 * (1 - zeroBit (x .a) (y .a))) (256 * (1 - zeroBit (x .b) (y .b))) (256 * (1 - zeroBit (x .c) (y .c))) (256 * (1 - zeroBit (x .d) (y .d)))
+carry-lanes x y =
     let e : word x + byte-mask ≡ word (raised x) = omega arith in
     let o : word y + byte-mask ≡ word (raised y) = omega arith in
-    (λ i. zeros (e i) (o i))
-    ∙ ap (λ (n : ℕ). (carry-mask - bitAnd n carry-mask) / 2 ^ 8) (and-lanes (raised x) (raised y))
-    ∙ ap (λ (n : ℕ). (carry-mask - n) / 2 ^ 8)
-    (and-lanes (raised x & raised y) (each 256 (omega arith))
+    (λ i. bitAnd (bitAnd (e i) (o i)) carry-mask)
+    ∙ ap (λ (n : ℕ). bitAnd n carry-mask) (and-lanes (raised x) (raised y))
+    ∙ and-lanes (raised x & raised y) (each 256 (omega arith))
     ∙ lanes-cong
     (carried (x .a) (y .a) (x .a-lt) (y .a-lt)) (carried (x .b) (y .b) (x .b-lt) (y .b-lt))
-    (carried (x .c) (y .c) (x .c-lt) (y .c-lt)) (carried (x .d) (y .d) (x .d-lt) (y .d-lt)))
-    ∙ left (bits x y)
+    (carried (x .c) (y .c) (x .c-lt) (y .c-lt)) (carried (x .d) (y .d) (x .d-lt) (y .d-lt))
+
+-- those of a word
+pub carries-8 : (w : ℕ) → w < 2 ^ 64
+    → bitAnd (bitAnd (bitAnd w byte-mask + byte-mask) (bitAnd (w / 2 ^ 8) byte-mask + byte-mask)) carry-mask
+    ≡ lanes (256 * (1 - zeroBit (w % 256) (w / 2 ^ 8 % 256))) (256 * (1 - zeroBit (w / 2 ^ 16 % 256) (w / 2 ^ 24 % 256)))
+    (256 * (1 - zeroBit (w / 2 ^ 32 % 256) (w / 2 ^ 40 % 256))) (256 * (1 - zeroBit (w / 2 ^ 48 % 256) (w / 2 ^ 56 % 256)))
+carries-8 w h =
+    (λ i. bitAnd (bitAnd (first-lanes w h i + byte-mask) (second-lanes w h i + byte-mask)) carry-mask) ∙ carry-lanes (first w) (second w)
+
+zero-lanes : (x y : Four 256) → zeros (word x + byte-mask) (word y + byte-mask) ≡ word (bits x y)
+zero-lanes x y = ap (λ (n : ℕ). (carry-mask - n) / 2 ^ 8) (carry-lanes x y) ∙ left (bits x y)
 
 -- the mask of a word's four records
 pub mask-word : (w : ℕ) → w < 2 ^ 64

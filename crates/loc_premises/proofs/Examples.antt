@@ -14,16 +14,16 @@ use Rattle.loc_leaf.specs.Slot.{stridesRefusal, slot, storedAsZero, needsRow, i
 use Rattle.loc_leaf.specs.Rows.{row, rowNumber, rowValue, rowList, ascending, lastNumber, rowsUpTo, rowFor, hasRow, lookup, slotValue, valueIn}
 use Rattle.loc_leaf.specs.Cut.{matches, cuts, cutFor}
 use Rattle.loc_calls.specs.Areas.{sizes, count}
-use Rattle.loc_calls.specs.Table.{valueOf, bodyAfter, spanAfter, zipped, entries, uneven, spanless, breaks, entryRefusal, entriesRefusal, endPast, batchRefusal, table}
+use Rattle.loc_calls.specs.Table.{valueOf, bodyAfter, spanAfter, zipped, entries, uneven, spanless, breaks, entryRefusal, entriesRefusal, startRefusal, endPast, batchRefusal, table}
 use Rattle.loc_calls.specs.Stores.{step, run, differing, truncatePlaces, nextRow, holdsNext, cutRule, ruledCount, ruled, openPlaces, ragged, openRefusal, stores, anyStores, settled, checkpoint, gather, rowOf, checkpointOf, staged, newEnd, newEnds, appendPlaces}
-use Rattle.loc_calls.specs.Reading.{sumAfter, allAfter, lookupAt, has, valueAt, stridesAfter, spansAfter, checkpointAt, windowEnd, lookedAt, within, rowMissing, anyMissing, words, wordsFor, answered, found}
+use Rattle.loc_calls.specs.Reading.{sumAfter, allAfter, lookupAt, has, valueAt, stridesAfter, spansAfter, checkpointAt, windowEnd, lookedAt, within, rowMissing, anyMissing, words, wordsFor, answered, found, bodyRead, spanRead, endRead}
 use Rattle.loc_calls.specs.Calls.{unlessRefused, tooSmall, unread, isOpening, refusal, places, value, lent, buffer, areasAfter, call, createPlaces, create}
-use Rattle.loc_history.specs.Book.{recOf, records, lenSum, spanSum, bodyEnd, spanEnd, checkpointCount, takesRow, rowCount, bookEnds, bookRefusal, bookNext, recordWords, bookWords, Reply, bookReply, longest, longestPart, appendTorn, truncateTorn, bookTorn}
-use Rattle.loc_history.specs.History.{indexAfter, indexGives, indexReplies, bookAfter, bookGives, bookReplies, FirstAt, StartsAt16, CarriesOn, EndsBelow, Narrow, LawfulCall, Awaited, BeforeEnd, LawfulEvent, isTear, Lawful, Sized, AllSized, Demand3}
+use Rattle.loc_history.specs.Book.{recOf, records, lenSum, spanSum, bodyEnd, spanEnd, checkpointCount, takesRow, rowCount, bookEnds, listEnd, bookRefusal, bookNext, recordWords, bookWords, Reply, bookReply, longest, longestPart, appendTorn, truncateTorn, bookTorn}
+use Rattle.loc_history.specs.History.{indexAfter, indexGives, indexReplies, bookAfter, bookGives, bookReplies, EndsBelow, Narrow, LawfulCall, Awaited, BeforeEnd, LawfulEvent, isTear, Lawful, Sized, AllSized, Demand3}
 use Rattle.loc_history.proofs.History.{demand3}
 use Rattle.loc_premises.specs.Replies.{gives, refuses, reads, small, wide, Both, Differ}
 use Rattle.loc_premises.specs.Lawful.{story, storyReplies, singleStory, singleReplies, forgedStory, forgedReplies, longStory, longReplies}
-use Rattle.loc_premises.specs.Broken.{bytes15, openedSmall, startsAt24, leavesAGap, notOpened, tornAfterEnd, wideSpans}
+use Rattle.loc_premises.specs.Broken.{bytes15, openedSmall, notOpened, tornAfterEnd, wideSpans}
 
 pub narrow : (n c : ℕ) → c < 2 ^ 32 → Narrow Paired (replicate n c)
 unfolding Narrow
@@ -32,7 +32,7 @@ narrow (suc n) c h = (h, narrow n c h)
 
 -- to unfold this is to unfold all that a history is computed by
 unfoldable pub everything : Type 0
-unfolding number bytes numberAt store answer counted storeLength storePast pieces fill published stridesRefusal slot storedAsZero needsRow inline slotAt checkpointRule row rowNumber rowValue rowList ascending lastNumber rowsUpTo rowFor hasRow lookup slotValue matches cuts cutFor sizes count valueOf bodyAfter spanAfter zipped entries uneven spanless breaks entryRefusal entriesRefusal endPast batchRefusal table step run differing truncatePlaces nextRow holdsNext cutRule ruledCount ruled openPlaces ragged openRefusal stores anyStores settled checkpoint gather rowOf checkpointOf staged newEnd newEnds appendPlaces sumAfter allAfter lookupAt has valueIn valueAt stridesAfter spansAfter checkpointAt windowEnd lookedAt within rowMissing anyMissing words wordsFor answered found unlessRefused tooSmall unread isOpening refusal places value lent buffer areasAfter call createPlaces create flatten recOf records lenSum spanSum bodyEnd spanEnd checkpointCount takesRow rowCount bookEnds bookRefusal bookNext recordWords bookWords bookReply longest longestPart appendTorn truncateTorn bookTorn indexAfter indexGives indexReplies bookAfter bookGives bookReplies FirstAt StartsAt16 CarriesOn EndsBelow Narrow LawfulCall Awaited BeforeEnd LawfulEvent isTear Lawful Sized
+unfolding number bytes numberAt store answer counted storeLength storePast pieces fill published stridesRefusal slot storedAsZero needsRow inline slotAt checkpointRule row rowNumber rowValue rowList ascending lastNumber rowsUpTo rowFor hasRow lookup slotValue matches cuts cutFor sizes count valueOf bodyAfter spanAfter zipped entries uneven spanless breaks entryRefusal entriesRefusal startRefusal endPast batchRefusal table step run differing truncatePlaces nextRow holdsNext cutRule ruledCount ruled openPlaces ragged openRefusal stores anyStores settled checkpoint gather rowOf checkpointOf staged newEnd newEnds appendPlaces sumAfter allAfter lookupAt has valueIn valueAt stridesAfter spansAfter checkpointAt windowEnd lookedAt within rowMissing anyMissing words wordsFor answered found bodyRead spanRead endRead unlessRefused tooSmall unread isOpening refusal places value lent buffer areasAfter call createPlaces create flatten recOf records lenSum spanSum bodyEnd spanEnd checkpointCount takesRow rowCount bookEnds listEnd bookRefusal bookNext recordWords bookWords bookReply longest longestPart appendTorn truncateTorn bookTorn indexAfter indexGives indexReplies bookAfter bookGives bookReplies EndsBelow Narrow LawfulCall Awaited BeforeEnd LawfulEvent isTear Lawful Sized
 everything = Unit
 
 -- one event after another
@@ -78,43 +78,49 @@ computed = record {
   edge-sized = record { slots = omega arith; rows = omega arith; checkpoints = omega arith };
   sized = record { slots = omega arith; rows = omega arith; checkpoints = omega arith };
   lawful =
-      ((λ p. p), ((omega arith, (omega arith, tt)), λ _. record { starts = (refl, refl); carries = tt; ends = (omega arith, omega arith) }))
+      ((λ p. p), ((omega arith, tt), λ _. (omega arith, omega arith)))
+      then ((λ p. p), ((omega arith, (omega arith, tt)), λ _. (omega arith, omega arith)))
       then ((λ p. p), tt)
-      then ((λ p. p), ((omega arith, (omega arith, tt)), λ _. record { starts = tt; carries = (refl, refl); ends = (omega arith, omega arith) }), omega arith)
+      then ((λ p. p), ((omega arith, tt), λ _. (omega arith, omega arith)))
+      then ((λ p. p), ((omega arith, (omega arith, tt)), λ _. (omega arith, omega arith)), omega arith)
+      then ((λ p. p), tt)
+      then ((λ p. p), ((omega arith, (omega arith, tt)), λ _. (omega arith, omega arith)), omega arith)
       then ((λ p. p), tt, omega arith)
       then ((λ p. p), tt)
       then ((λ p. p), tt)
       then ((λ p. p), tt)
-      then ((λ p. p), ((omega arith, (omega arith, tt)), λ _. record { starts = tt; carries = (refl, refl); ends = (omega arith, omega arith) }))
+      then ((λ p. p), ((omega arith, (omega arith, tt)), λ _. (omega arith, omega arith)))
       then ((λ p. p), tt, omega arith)
       then ((λ p. p), tt)
-      then ((λ p. p), ((omega arith, (omega arith, tt)), λ _. record { starts = tt; carries = (refl, refl); ends = (omega arith, omega arith) }))
+      then ((λ p. p), ((omega arith, (omega arith, tt)), λ _. (omega arith, omega arith)))
       then ((λ p. p), tt)
       then ((λ p. p), tt, omega arith)
       then ((λ p. p), tt)
       then tt;
   single-lawful =
-      ((λ p. p), (tt, λ _. record { starts = refl; carries = tt; ends = omega arith }))
+      ((λ p. p), (tt, λ _. omega arith))
+      then ((λ p. p), (tt, λ _. omega arith))
       then ((λ p. p), tt)
-      then ((λ p. p), (tt, λ _. record { starts = tt; carries = refl; ends = omega arith }), omega arith)
+      then ((λ p. p), (tt, λ _. omega arith), omega arith)
       then ((λ p. p), tt, omega arith)
       then ((λ p. p), tt)
       then ((λ p. p), tt)
       then ((λ p. p), tt, omega arith)
       then ((λ p. p), tt)
       then ((λ p. p), tt)
-      then ((λ p. p), (tt, λ _. record { starts = tt; carries = refl; ends = omega arith }))
+      then ((λ p. p), (tt, λ _. omega arith))
       then ((λ p. p), tt, omega arith)
       then ((λ p. p), tt)
-      then ((λ p. p), (tt, λ _. record { starts = tt; carries = refl; ends = omega arith }))
-      then ((λ p. p), (tt, λ _. record { starts = tt; carries = refl; ends = omega arith }))
+      then ((λ p. p), (tt, λ _. omega arith))
+      then ((λ p. p), (tt, λ _. omega arith))
       then ((λ p. p), tt)
       then tt;
   edge-lawful =
-      ((λ p. p), (narrow 1026 2 (omega arith), λ _. record { starts = (refl, refl); carries = tt; ends = (omega arith, omega arith) }), omega arith)
+      ((λ p. p), (narrow 1026 2 (omega arith), λ _. (omega arith, omega arith)), omega arith)
       then ((λ p. p), tt)
+      then ((λ p. p), (narrow 1026 2 (omega arith), λ _. (omega arith, omega arith)))
       then ((λ p. p), tt)
-      then ((λ p. p), (narrow 1026 2 (omega arith), λ _. record { starts = (refl, refl); carries = tt; ends = (omega arith, omega arith) }))
+      then ((λ p. p), (narrow 1026 2 (omega arith), λ _. (omega arith, omega arith)))
       then ((λ p. p), tt)
       then ((λ p. p), tt, omega arith)
       then ((λ p. p), tt)
@@ -124,15 +130,6 @@ computed = record {
   before-end-needed = (refl, refl, λ p. let z : _≡_ {A = ℕ} 3 4 = ap weight p in omega arith);
   narrow-needed = (refl, refl, λ p. let z : _≡_ {A = ℕ} 52 38654705716 = ap weight p in omega arith);
 }
-
--- two histories over a window's edge, each by itself: the index stores their 2,050 bytes one by one
-pub starts-needed : Differ Single wide startsAt24 (gives 0 1025 ∷ reads 1 (1 ∷ 8216 ∷ 8 ∷ []) ∷ []) (gives 0 1025 ∷ reads 1 (1 ∷ 8208 ∷ 8 ∷ []) ∷ [])
-unfolding everything
-starts-needed = (refl, refl, λ p. let z : _≡_ {A = ℕ} 9251 9243 = ap weight p in omega arith)
-
-pub carries-needed : Differ Single wide leavesAGap (gives 0 1 ∷ gives 0 1025 ∷ reads 1 (1 ∷ 8216 ∷ 8 ∷ []) ∷ []) (gives 0 1 ∷ gives 0 1025 ∷ reads 1 (1 ∷ 8208 ∷ 8 ∷ []) ∷ [])
-unfolding everything
-carries-needed = (refl, refl, λ p. let z : _≡_ {A = ℕ} 9252 9244 = ap weight p in omega arith)
 
 -- so the theorem has something to say
 pub story-by-demand3 : indexReplies Paired ((create small) .areas) story ≡ bookReplies Paired (sizes small) [] story

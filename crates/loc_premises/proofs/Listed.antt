@@ -34,14 +34,15 @@ x before y = (x, y)
 pub lawful : AllLawful (sizes small) false [] listedStory
 unfolding listings
 lawful =
-    ((λ p. p), λ _. record { starts = (refl, refl); carries = tt; ends = (omega arith, omega arith) })
+    ((λ p. p), λ _. (omega arith, omega arith))
     before ((λ p. p), λ (z : _≡_ {A = ℕ} 19 0). absurd (omega arith))
-    before ((λ p. p), (λ _. record { starts = tt; carries = (refl, refl); ends = (omega arith, omega arith) }), omega arith)
+    before ((λ p. p), λ (z : _≡_ {A = ℕ} 23 0). absurd (omega arith))
+    before ((λ p. p), (λ _. (omega arith, omega arith)), omega arith)
     before ((λ p. p), tt)
-    before ((λ p. p), λ _. record { starts = tt; carries = (refl, refl); ends = (omega arith, omega arith) })
+    before ((λ p. p), λ _. (omega arith, omega arith))
     before ((λ p. p), tt)
     before ((λ p. p), λ (z : _≡_ {A = ℕ} 22 0). absurd (omega arith))
-    before ((λ p. p), λ _. record { starts = tt; carries = (refl, refl); ends = (omega arith, omega arith) })
+    before ((λ p. p), λ _. (omega arith, omega arith))
     before ((λ p. p), tt)
     before tt
 

@@ -19,7 +19,7 @@ use Rattle.loc_round_trip.proofs.Located.{span-at-of-histories}
 use Rattle.loc_premises.specs.Replies.{small, wide}
 use Rattle.loc_premises.specs.Listed.{listedStory}
 use Rattle.loc_premises.specs.Located.{listedAreas, ListedLocated, longAppended, longAreas, EdgeLocated}
-use Rattle.loc_premises.proofs.Examples.{narrow, everything, Computed, computed}
+use Rattle.loc_premises.proofs.Examples.{narrow, everything, computed}
 use Rattle.loc_premises.proofs.Listed.{listings, lawful}
 
 -- ---- with listings and tears
@@ -53,7 +53,7 @@ many-is = refl
 
 long-lawful : AllLawful (sizes wide) false [] longAppended
 unfolding listings
-long-lawful = (((λ p. p), (narrow 1026 2 (omega arith), λ _. record { starts = (refl, refl); carries = tt; ends = (omega arith, omega arith) })), tt)
+long-lawful = (((λ p. p), (narrow 1026 2 (omega arith), λ _. (omega arith, omega arith))), tt)
 
 long-end : Locates longAreas (anyBookAtEnd (sizes wide) [] longAppended)
 unfolding SpanAtOfHistories anyAwaits isAnyTear isTear

@@ -6,7 +6,6 @@ use lib.ListN.{replicate}
 use Rattle.loc_calls.specs.Areas.{Areas}
 use Rattle.loc_calls.specs.Table.{batch, opening, append, truncate, read}
 use Rattle.loc_history.specs.History.{Event, finished, torn}
-use Rattle.loc_premises.specs.Replies.{from}
 
 -- ---- an area of 15 bytes: the index refuses to open it, the book knows no such refusal
 
@@ -15,20 +14,6 @@ bytes15 = record { slots = replicate 15 0; rows = replicate 16 0; checkpoints = 
 
 abbrev pub openedSmall : List Event
 openedSmall = finished opening ∷ []
-
--- ---- the first batch starts at 24: the checkpoint after record 1,024 is 8 too large
-
-abbrev pub startsAt24 : List Event
-startsAt24 = finished (append (batch (from 8 24 1025) (replicate 1025 8) [] [])) ∷ finished (read (1025 ∷ []) (replicate 3 9)) ∷ []
-
--- ---- the second batch starts 8 past the end of the first: the same
-
-abbrev pub leavesAGap : List Event
-leavesAGap =
-    finished (append (batch (16 ∷ []) (8 ∷ []) [] []))
-    ∷ finished (append (batch (from 8 32 1024) (replicate 1024 8) [] []))
-    ∷ finished (read (1025 ∷ []) (replicate 3 9))
-    ∷ []
 
 -- ---- a reading before the opening that a tear awaits: the slot of record 2 is published, its row is not
 

@@ -1,4 +1,4 @@
--- Lawful histories: of every kind of event, paired and single; with a forged row behind the rows; and over a window's edge.
+-- Lawful histories: of every kind of event, paired and single, with batches that do not carry on; with a forged row behind the rows; and over a window's edge.
 -- Each with the replies that index and book give.
 use mathlib.Core.List.{List, [], _∷_}
 use lib.ListN.{replicate}
@@ -20,10 +20,22 @@ batch2 = batch (2104 ∷ 2112 ∷ []) (8 ∷ 4096 ∷ []) (48 ∷ 56 ∷ []) (1 
 abbrev pub batch3 : Batch
 batch3 = batch (2112 ∷ 2120 ∷ []) (8 ∷ 4096 ∷ []) (56 ∷ 64 ∷ []) (1 ∷ 300 ∷ [])
 
+-- in an empty index it does not start at 16; after batch1 its spans do not start at 48, and its body is empty
+abbrev pub elsewhere : Batch
+elsewhere = batch (24 ∷ []) (8 ∷ []) (24 ∷ []) (1 ∷ [])
+
+abbrev pub spansElsewhere : Batch
+spansElsewhere = batch (2104 ∷ []) (0 ∷ []) (56 ∷ []) (1 ∷ [])
+
+-- batch3 carries on after batch2's first record, not after batch1
 abbrev pub story : List Event
 story =
-    finished (append batch1)
+    finished (append elsewhere)
+    ∷ finished (append batch1)
     ∷ finished (read (2 ∷ 0 ∷ 1 ∷ 3 ∷ []) (replicate 26 9))
+    ∷ finished (append spansElsewhere)
+    ∷ torn 3 (append batch3)
+    ∷ finished opening
     ∷ torn 2 (append batch2)
     ∷ torn 4 opening
     ∷ finished opening
@@ -40,8 +52,11 @@ story =
 
 abbrev pub storyReplies : List Reply
 storyReplies =
-    gives 0 2
+    gives 23 0
+    ∷ gives 0 2
     ∷ reads 2 (1 ∷ 56 ∷ 2048 ∷ 40 ∷ 8 ∷ 1 ∷ 0 ∷ 0 ∷ 0 ∷ 0 ∷ 0 ∷ 0 ∷ 1 ∷ 16 ∷ 40 ∷ 16 ∷ 24 ∷ 3 ∷ 0 ∷ 0 ∷ 0 ∷ 0 ∷ 0 ∷ 0 ∷ 9 ∷ 9 ∷ [])
+    ∷ gives 24 0
+    ∷ gives 0 2
     ∷ gives 0 3
     ∷ reads 1 (1 ∷ 2104 ∷ 8 ∷ 48 ∷ 8 ∷ 1 ∷ 0 ∷ 0 ∷ 0 ∷ 0 ∷ 0 ∷ 0 ∷ [])
     ∷ gives 14 0
@@ -61,7 +76,8 @@ single2 = batch (526360 ∷ 526368 ∷ []) (8 ∷ 524288 ∷ []) [] []
 
 abbrev pub singleStory : List Event
 singleStory =
-    finished (append single1)
+    finished (append (batch (24 ∷ []) (8 ∷ []) [] []))
+    ∷ finished (append single1)
     ∷ finished (read (3 ∷ 2 ∷ []) (replicate 6 9))
     ∷ torn 2 (append single2)
     ∷ torn 4 opening
@@ -80,7 +96,8 @@ singleStory =
 
 abbrev pub singleReplies : List Reply
 singleReplies =
-    gives 0 3
+    gives 23 0
+    ∷ gives 0 3
     ∷ reads 2 (1 ∷ 524312 ∷ 2048 ∷ 1 ∷ 24 ∷ 524288 ∷ [])
     ∷ gives 0 4
     ∷ gives 14 0
@@ -114,6 +131,7 @@ abbrev pub longStory : List Event
 longStory =
     torn 3 (append long)
     ∷ finished opening
+    ∷ finished (append long)
     ∷ finished (truncate 0)
     ∷ finished (append long)
     ∷ finished (read (1026 ∷ 3 ∷ []) (replicate 12 9))
@@ -122,4 +140,4 @@ longStory =
     ∷ []
 
 abbrev pub longReplies : List Reply
-longReplies = gives 0 1023 ∷ gives 0 0 ∷ gives 0 1026 ∷ reads 2 (1 ∷ 41016 ∷ 40 ∷ 16416 ∷ 16 ∷ 2 ∷ 1 ∷ 96 ∷ 40 ∷ 48 ∷ 16 ∷ 2 ∷ []) ∷ gives 0 1023 ∷ []
+longReplies = gives 0 1023 ∷ gives 23 0 ∷ gives 0 0 ∷ gives 0 1026 ∷ reads 2 (1 ∷ 41016 ∷ 40 ∷ 16416 ∷ 16 ∷ 2 ∷ 1 ∷ 96 ∷ 40 ∷ 48 ∷ 16 ∷ 2 ∷ []) ∷ gives 0 1023 ∷ []

@@ -1,13 +1,10 @@
 // The walk over the windows of the wanted numbers: their answers, or 17.
 // Keys in any order would do; no answer rests on it.
 ghost use mathlib.Core.Path.{_≡_};
-ghost use Prim.Native.Nat.{_+_, _*_, _^_, _<_, _≤_};
+ghost use Prim.Native.Nat.{_*_, _≤_};
 ghost use lib.ListN.{length, replicate};
-ghost use Rattle.loc_leaf.specs.Bytes.{Bytes};
-ghost use Rattle.loc_leaf.specs.Kind.{checkpointWidth};
 ghost use Rattle.loc_calls.specs.Areas.{areas};
 ghost use Rattle.loc_calls.specs.Table.{wordWidth};
-ghost use Rattle.loc_calls.specs.Reading.{windowEnd};
 ghost use Rattle.loc_order.specs.Order.{sorted};
 ghost use Rattle.loc_order.specs.Keys.{keysFrom};
 ghost use Rattle.loc_read.specs.Walk.{Readable, Finished};
@@ -16,25 +13,12 @@ use crate::runs::wanted_by;
 use loc_answer::put::put_run;
 use loc_leaf::Kind;
 use loc_leaf::delta_loc::LOC_WINDOW;
-use loc_leaf::delta_loc::checkpoint_width;
 use loc_leaf::delta_loc::loc_window;
 use loc_leaf::file::FILE_HEADER_LEN;
-use loc_leaf::file::u64_at;
 use loc_window::Step;
+use loc_window::checkpoint::window_end;
 use loc_window::window::copy_slots;
 use loc_window::window::slot_step;
-
-// Where the bodies of a window begin, or at 8 its spans: 16 in window 0, else as its checkpoint says.
-pub fn window_end(kind: Kind, checkpoints: &[u8], at: usize, w: u64) -> u64
-    requires { ⌜ (at ≤ 8) × (w < 2 ^ 56) ⌝ }
-    ensures { λ r. ⌜ ((s t : Bytes) → at + 8 ≤ checkpointWidth kind → r ≡ windowEnd kind (areas s t (now (checkpoints .entry))) at w) ⌝ }
-{
-    if w == 0 {
-        return 16;
-    }
-    let width = checkpoint_width(kind);
-    u64_at(checkpoints, FILE_HEADER_LEN + width * (w - 1) as usize + at)
-}
 
 // The answers of all keys, each at its number's place, or 17 where a slot that is looked at lacks its row.
 pub fn finish_range_batch(

@@ -13,7 +13,6 @@ ghost use Rattle.loc_window.specs.Window.{placed, complete, sumsOf, Summing};
 ghost use Rattle.loc_read.specs.Runs.{OneRun};
 ghost use Rattle.loc_read.specs.Walk.{WindowSummed};
 ghost use Rattle.loc_read.specs.Read.{Tested};
-use crate::walk::window_end;
 use loc_answer::put::put_window;
 use loc_leaf::Answer;
 use loc_leaf::Kind;
@@ -23,6 +22,7 @@ use loc_leaf::delta_loc::row_width;
 use loc_leaf::file::FILE_HEADER_LEN;
 use loc_store::plan::piece_count;
 use loc_window::Step;
+use loc_window::checkpoint::window_end;
 use loc_window::window::copy_slots;
 use loc_window::window::slot_step;
 

@@ -1,5 +1,5 @@
-// Replays a sample of the original's answers, the file `answers`, which compare/sample.sh writes with the original itself, and
-// prints how many differ. The original has no audit: the values of audits are worked out from its readings of every record.
+// Replays a sample of the original's answers, the file `answers`, which compare/sample.sh writes with the original itself, and prints how many differ.
+// What the original does not have, audits and append's 17, 23 and 24, is worked out there from its readings.
 mod batch;
 mod bytes;
 mod call;

@@ -1,7 +1,7 @@
 -- The batch of a good list of valid records: its lists, and that an empty index with room for it takes it.
--- 7 to 13 and 22 are passed one by one.
+-- 7, 23 and 24, 8 to 12 and 22, 13 are passed one by one.
 use Prim.Native.Nat.{ℕ, _+_, _*_, _^_, _<_}
-use mathlib.Core.Path.{_≡_, refl, sym, ap, _∙_, subst}
+use mathlib.Core.Path.{_≡_, refl, ap, _∙_}
 use mathlib.Core.Bool.{true, false}
 use mathlib.Core.List.{List, [], _∷_, map}
 use native.Mathlib.Omega.{arith}
@@ -13,11 +13,11 @@ use Rattle.loc_leaf.specs.Slot.{stridesRefusal}
 use Rattle.loc_leaf.proofs.SlotLaws.{strides-good}
 use Rattle.loc_leaf.proofs.ValueLaws.{SpansFit}
 use Rattle.loc_calls.specs.Areas.{Areas, sizes}
-use Rattle.loc_calls.specs.Table.{Entry, valueOf, bodyAfter, spanAfter, Batch, append, zipped, entries, uneven, spanless, breaks, entryRefusal, entriesRefusal, endPast, batchRefusal, table}
+use Rattle.loc_calls.specs.Table.{Entry, valueOf, bodyAfter, spanAfter, Batch, append, zipped, entries, uneven, spanless, breaks, entryRefusal, entriesRefusal, startRefusal, endPast, batchRefusal, table}
 use Rattle.loc_calls.proofs.Gathered.{AllValid}
 use Rattle.loc_calls.proofs.Chains.{lens, spans, Chained, Good}
-use Rattle.loc_history.specs.Book.{Rec, recOf, bookEnds, bookRefusal}
-use Rattle.loc_history.specs.History.{FirstAt, StartsAt16, CarriesOn, EndsBelow, Follows, Narrow, LawfulCall}
+use Rattle.loc_history.specs.Book.{Rec, recOf, records, lenSum, spanSum, bodyEnd, spanEnd, bookEnds, listEnd, bookRefusal}
+use Rattle.loc_history.specs.History.{EndsBelow, Narrow, LawfulCall}
 use Rattle.loc_history.proofs.BookLaws.{body-end, span-end}
 use Rattle.loc_parse.specs.Lines.{empty}
 use Rattle.loc_parse.proofs.LinesBack.{AllFit, joined}
@@ -55,6 +55,12 @@ narrow-own (e ∷ E) f = (f .0 .spans, narrow-own E (f .1))
 even : (E : List Entry) → uneven Paired (batchOf E) ≡ false
 unfolding uneven
 even E = simp (length-map, eq-eqb (length E) (length E) refl)
+
+-- ---- 23 and 24
+
+first-at-16 : (e : Entry) → e .start ≡ 16 → e .spanStart ≡ 16 → startRefusal (listEnd []) e ≡ 0
+unfolding startRefusal listEnd bodyEnd spanEnd lenSum spanSum
+first-at-16 e p q = rw (p, q) refl
 
 -- ---- 8, 22, 9 to 12
 
@@ -94,24 +100,18 @@ none-past L b h =
 -- ---- an empty index takes it
 
 module _ (E : List Entry) (v : AllValid Paired E) (g : Good E) (b : Areas) (h : Enough (map recOf E) b) where
-  batch-good : (D : List Entry) → entriesRefusal Paired D ≡ 0 → endPast (bookEnds Paired (map recOf D)) (sizes b) ≡ false → batchRefusal Paired (bookEnds Paired (map recOf D)) (sizes b) D ≡ 0
-  unfolding batchRefusal
-  batch-good [] p q = refl
-  batch-good (d ∷ D) p q = rw (p, q) refl
+  batch-good : (D : List Entry) → Chained 16 16 D → entriesRefusal Paired D ≡ 0 → endPast (bookEnds Paired (map recOf D)) (sizes b) ≡ false
+      → batchRefusal Paired (listEnd []) (bookEnds Paired (map recOf D)) (sizes b) D ≡ 0
+  unfolding batchRefusal Chained
+  batch-good [] c p q = refl
+  batch-good (d ∷ D) c p q = rw (first-at-16 d (c .0) (c .1), p, q) refl
 
   pub book-accepts : bookRefusal Paired (sizes b) [] (append (batchOf E)) ≡ 0
   unfolding bookRefusal table
   book-accepts =
       rw (even E, entries-own E)
-      (batch-good E (entries-good 16 16 E (g .chained) v (g .body) (g .span)) (none-past (map recOf E) b h))
-
-  follows : Follows Paired [] E
-  follows = record { starts = starts E (g .chained); carries = unfold CarriesOn in tt; ends = unfold EndsBelow in (rw (body-end E) (g .body), rw (span-end E) (g .span)) }
-    where
-      starts : (D : List Entry) → Chained 16 16 D → StartsAt16 Paired [] D
-      starts [] c = unfold StartsAt16 FirstAt in tt
-      starts (d ∷ D) c = unfold StartsAt16 FirstAt Chained in (c .0, c .1)
+      (batch-good E (g .chained) (entries-good 16 16 E (g .chained) v (g .body) (g .span)) (none-past (map recOf E) b h))
 
   pub batch-lawful : LawfulCall Paired (sizes b) [] (append (batchOf E))
-  unfolding LawfulCall
-  batch-lawful = (narrow-own E (all-fit 16 16 E (g .chained) v (g .body) (g .span)), λ _. subst (Follows Paired []) (sym (entries-own E)) follows)
+  unfolding LawfulCall EndsBelow records
+  batch-lawful = (narrow-own E (all-fit 16 16 E (g .chained) v (g .body) (g .span)), λ _. rw (entries-own E, body-end E, span-end E) (g .body, g .span))

@@ -9,11 +9,11 @@ use Rattle.loc_leaf.specs.declared.Kind.the-variants.{Paired}
 use Rattle.loc_leaf.specs.Bytes.{Bytes}
 use Rattle.loc_leaf.specs.Answers.{_orElse_, answer}
 use Rattle.loc_calls.specs.Areas.{Three, Areas, sizes}
-use Rattle.loc_calls.specs.Table.{Call, append, entries}
+use Rattle.loc_calls.specs.Table.{Call, append}
 use Rattle.loc_calls.specs.Stores.{write, step}
 use Rattle.loc_calls.specs.Calls.{unlessRefused, create}
-use Rattle.loc_history.specs.Book.{Rec, bookRefusal, Reply}
-use Rattle.loc_history.specs.History.{Event, finished, torn, indexAfter, indexGives, bookAfter, bookGives, Follows, Awaited, BeforeEnd, LawfulEvent, isTear, AllSized, Stores}
+use Rattle.loc_history.specs.Book.{Rec, records, bookRefusal, Reply}
+use Rattle.loc_history.specs.History.{Event, finished, torn, indexAfter, indexGives, bookAfter, bookGives, EndsBelow, Awaited, BeforeEnd, LawfulEvent, isTear, AllSized, Stores}
 use Rattle.loc_parse.specs.Lines.{Parsed, parsed}
 use Rattle.loc_parse.specs.Import.{appendListing}
 
@@ -79,9 +79,9 @@ anyBookAtEnd size L (e ∷ es) = anyBookAtEnd size (bookAfterAny size L e) es
 
 -- ---- the premises
 
--- those of demand 3. A listing's span counts have 32 bits by its form, so of one that is not refused only what follows the list is asked
+-- those of demand 3. A listing's span counts have 32 bits by its form, so of one that is not refused only its ends are asked
 unfoldable pub LawfulListing : Three ℕ → List Rec → List ℕ → Type 0
-LawfulListing size L xs = ((said L xs) .number orElse bookRefusal Paired size L (asAppend L xs)) ≡ 0 → Follows Paired L (entries Paired ((said L xs) .batch))
+LawfulListing size L xs = ((said L xs) .number orElse bookRefusal Paired size L (asAppend L xs)) ≡ 0 → EndsBelow Paired (L ++ records Paired ((said L xs) .batch))
 
 unfoldable pub LawfulAny : Three ℕ → Bool → List Rec → AnyEvent → Type 0
 LawfulAny size waiting L (event e) = LawfulEvent Paired size waiting L e

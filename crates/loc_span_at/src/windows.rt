@@ -15,11 +15,11 @@ use crate::Part;
 use crate::find::find;
 use loc_calls::SpanAt;
 use loc_leaf::Kind;
-use loc_read::walk::window_end;
 use loc_store::check::call_refusal;
 use loc_store::plan::piece_count;
 use loc_whole::totals::totals;
 use loc_window::Step;
+use loc_window::checkpoint::window_end;
 
 // The records of a quarter.
 const QUARTER: u64 = 256;

@@ -8,7 +8,7 @@ use native.Mathlib.Nat.{add-zero, add-suc}
 use native.Mathlib.Numerals.{add-one}
 use native.Mathlib.Omega.{arith}
 use lib.ListN.{length, getD, take, drop, replicate, length-drop, length-replicate}
-use lib.Seq.{getD-take, getD-drop, length-take-le}
+use lib.Seq.{length-take-le}
 use Rattle.loc_leaf.specs.declared.Kind.the-variants.{Paired}
 use Rattle.loc_leaf.specs.Bytes.{Bytes}
 use Rattle.loc_leaf.specs.Rows.{rowList}
@@ -18,7 +18,7 @@ use Rattle.loc_window.specs.declared.Sums.{Sums}
 use Rattle.loc_window.specs.declared.Step.{Step}
 use Rattle.loc_window.specs.declared.Step.the-variants.{Next, Lack}
 use Rattle.loc_window.specs.Window.{placed, Passed, After, sumsOf, Right, Stored, Summing, Copied}
-use Rattle.loc_window.proofs.WindowLaws.{complete-same, strides-same, spans-same, right-spans}
+use Rattle.loc_window.proofs.WindowLaws.{part-copied, complete-same, strides-same, spans-same, right-spans}
 use Rattle.loc_window.proofs.SummingLaws.{summing-begins, summed-stored}
 use Rattle.loc_whole.specs.Totals.{Walkable, Totals, Running, Totalled, Lent, PartTotalled}
 
@@ -61,9 +61,8 @@ module _ (a : Areas) (f m : ℕ) (some : 0 < m) where
   abbrev lent : Bytes
   lent = part (a .slots) f (2 * m)
 
-  -- it is a copy
   copied : Copied (a .slots) (16 + 2 * f) (2 * m) lent lent
-  copied = record { front = λ u h. getD-take (2 * m) (drop (16 + 2 * f) (a .slots)) u 0 h ∙ getD-drop (16 + 2 * f) (a .slots) u 0; rest = λ u h. refl }
+  copied = part-copied (a .slots) (16 + 2 * f) (2 * m) (2 * m) (omega arith)
 
   part-known : complete Paired (placed f lent (a .rows)) f m ≡ complete Paired a f m
   part-known = complete-same Paired a f m lent lent copied m (omega arith)

@@ -15,7 +15,7 @@ use Rattle.loc_leaf.specs.declared.Kind.the-variants.{Paired, Single}
 use Rattle.loc_leaf.specs.Bytes.{Bytes, byte, bytes}
 use Rattle.loc_leaf.specs.Block.{firsts, seconds}
 use Rattle.loc_leaf.specs.Slot.{inline}
-use Rattle.loc_leaf.proofs.Lanes.{byte-mask, bytes-8, shifted-firsts}
+use Rattle.loc_leaf.proofs.Lanes.{byte-mask, bytes-8, shifted-firsts, lanes}
 use Rattle.loc_window.specs.Block.{total, totalStrides, totalSpans, slotOf, sumFrom, inlineStrides, inlineSpans}
 
 -- ---- eight bytes
@@ -101,6 +101,10 @@ word-parts w =
     let e : w % 2 ^ 32 % 2 ^ 16 ≡ w % 2 ^ 16 = omega arith in
     and-parts w 32 0xffff 0xffff (omega arith) ∙ (λ i. and-mask (w / 2 ^ 32) 16 i * 2 ^ 32 + (and-mask (w % 2 ^ 32) 16 ∙ e) i)
 
+-- the same of the records between them
+pub odd-parts : (w : ℕ) → bitAnd (w / 2 ^ 16) word-mask ≡ w / 2 ^ 48 % 2 ^ 16 * 2 ^ 32 + w / 2 ^ 16 % 2 ^ 16
+odd-parts w = word-parts (w / 2 ^ 16) ∙ ap (λ (n : ℕ). n % 2 ^ 16 * 2 ^ 32 + w / 2 ^ 16 % 2 ^ 16) (shr-shr w 16 32)
+
 half-bytes : (w : ℕ) → bitAnd w 0xff_00ff ≡ (w / 2 ^ 16 % 2 ^ 8) * 2 ^ 16 + w % 2 ^ 8
 half-bytes w =
     let e : w % 2 ^ 16 % 2 ^ 8 ≡ w % 2 ^ 8 = omega arith in
@@ -116,17 +120,17 @@ two-bytes w j =
 
 -- ---- totals
 
--- four lanes of sixteen bits
-abbrev lanes : ℕ → ℕ → ℕ → ℕ → ℕ
-lanes a b c d = ((d * 2 ^ 16 + c) * 2 ^ 16 + b) * 2 ^ 16 + a
-
-byte-parts : (w : ℕ) → bitAnd w byte-mask ≡ lanes (w % 256) (w / 2 ^ 16 % 256) (w / 2 ^ 32 % 256) (w / 2 ^ 48 % 256)
+pub byte-parts : (w : ℕ) → bitAnd w byte-mask ≡ lanes (w % 256) (w / 2 ^ 16 % 256) (w / 2 ^ 32 % 256) (w / 2 ^ 48 % 256)
 byte-parts w =
     let e : w % 2 ^ 32 / 2 ^ 16 % 2 ^ 8 ≡ w / 2 ^ 16 % 2 ^ 8 = omega arith in
     let f : w % 2 ^ 32 % 2 ^ 8 ≡ w % 2 ^ 8 = omega arith in
     and-parts w 32 0xff_00ff 0xff_00ff (omega arith)
     ∙ (λ i. half-bytes (w / 2 ^ 32) i * 2 ^ 32 + half-bytes (w % 2 ^ 32) i)
     ∙ (λ i. (shr-shr w 32 16 i % 2 ^ 8 * 2 ^ 16 + w / 2 ^ 32 % 2 ^ 8) * 2 ^ 32 + (e i * 2 ^ 16 + f i)) ∙ omega arith
+
+-- the second bytes
+pub second-parts : (w : ℕ) → bitAnd (w / 2 ^ 8) byte-mask ≡ lanes (w / 2 ^ 8 % 256) (w / 2 ^ 24 % 256) (w / 2 ^ 40 % 256) (w / 2 ^ 56 % 256)
+second-parts w = byte-parts (w / 2 ^ 8) ∙ (λ i. lanes (w / 2 ^ 8 % 256) (shr-shr w 8 16 i % 256) (shr-shr w 8 32 i % 256) (shr-shr w 8 48 i % 256))
 
 -- the code's steps in first_total: each lane takes the lane below, then the two lanes below that
 abbrev take-1 : ℕ → ℕ
@@ -199,13 +203,10 @@ module _ (lo hi : ℕ) where
   abbrev words-sum : ℕ
   words-sum = bitAnd lo word-mask + bitAnd (lo / 2 ^ 16) word-mask + bitAnd hi word-mask + bitAnd (hi / 2 ^ 16) word-mask
 
-  odd-parts : (w : ℕ) → bitAnd (w / 2 ^ 16) word-mask ≡ w / 2 ^ 48 % 2 ^ 16 * 2 ^ 32 + w / 2 ^ 16 % 2 ^ 16
-  odd-parts w = word-parts (w / 2 ^ 16) ∙ ap (λ (n : ℕ). n % 2 ^ 16 * 2 ^ 32 + w / 2 ^ 16 % 2 ^ 16) (shr-shr w 16 32)
-
   words-are : words-sum ≡ upper * 2 ^ 32 + lower
   words-are = (λ i. word-parts lo i + odd-parts lo i + word-parts hi i + odd-parts hi i) ∙ omega arith
 
-  records-are : upper + lower ≡ total (firsts (bytes 8 lo ++ bytes 8 hi)) + 256 * total (seconds (bytes 8 lo ++ bytes 8 hi))
+  pub records-are : upper + lower ≡ total (firsts (bytes 8 lo ++ bytes 8 hi)) + 256 * total (seconds (bytes 8 lo ++ bytes 8 hi))
   records-are =
       (λ i.
       two-bytes lo 32 i + two-bytes lo 48 i + (two-bytes hi 32 i + two-bytes hi 48 i)
@@ -236,7 +237,7 @@ agree-next f g i j n e t h =
     let at : (k : ℕ) → k + 1 + t ≡ k + suc t = (λ k. omega arith) in
     ap f (at i) ∙ e (suc t) (omega arith) ∙ ap g (sym (at j))
 
-sum-same : (f g : ℕ → ℕ) (i j n : ℕ) → Agree f g i j n → sumFrom f i n ≡ sumFrom g j n
+pub sum-same : (f g : ℕ → ℕ) (i j n : ℕ) → Agree f g i j n → sumFrom f i n ≡ sumFrom g j n
 unfolding sumFrom
 sum-same f g i j zero e = refl
 sum-same f g i j (suc n) e = (λ x. agree-here f g i j n e x + sum-same f g (i + 1) (j + 1) n (agree-next f g i j n e) x)
@@ -252,24 +253,32 @@ unfolding total seconds bytes sumFrom inline
 spans-slots Paired lo hi = refl
 spans-slots Single lo hi = refl
 
+-- n records that stand in the copy from record k on
+module _ (s : Bytes) (k n : ℕ) (part : Bytes) (e : part ≡ take (2 * n) (drop (2 * k) s)) where
+  part-byte : (u : ℕ) → u < 2 * n → byte u part ≡ byte (2 * k + u) s
+  part-byte u h = ap (byte u) e ∙ getD-take (2 * n) (drop (2 * k) s) u 0 h ∙ getD-drop (2 * k) s u 0
+
+  -- record t of the part is record k + t of the copy
+  part-slot : (t : ℕ) → t < n → slotOf part t ≡ slotOf s (k + t)
+  part-slot t h =
+      let p : 2 * k + 2 * t ≡ 2 * (k + t) = omega arith in
+      let q : 2 * k + (2 * t + 1) ≡ 2 * (k + t) + 1 = omega arith in
+      let x : byte (2 * t) part ≡ byte (2 * (k + t)) s = part-byte (2 * t) (omega arith) ∙ ap (λ (u : ℕ). byte u s) p in
+      let y : byte (2 * t + 1) part ≡ byte (2 * (k + t) + 1) s = part-byte (2 * t + 1) (omega arith) ∙ ap (λ (u : ℕ). byte u s) q in
+      (λ i. x i ∷ y i ∷ [])
+
+  pub part-agree : (g : Bytes → ℕ) → Agree (λ i. g (slotOf part i)) (λ i. g (slotOf s i)) 0 k n
+  part-agree g t h = ap (λ (u : ℕ). g (slotOf part u)) (zero-add t) ∙ ap g (part-slot t h)
+
+  pub part-sum : (g : Bytes → ℕ) → sumFrom (λ i. g (slotOf part i)) 0 n ≡ sumFrom (λ i. g (slotOf s i)) k n
+  part-sum g = sum-same _ _ 0 k n (part-agree g)
+
 module _ (s : Bytes) (k lo hi : ℕ) (el : bytes 8 lo ≡ take 8 (drop (2 * k) s)) (eh : bytes 8 hi ≡ take 8 (drop (2 * k + 8) s)) where
   block-is : bytes 8 lo ++ bytes 8 hi ≡ take 16 (drop (2 * k) s)
   block-is = (λ i. el i ++ (eh ∙ ap (take 8) (sym (drop-drop 8 (2 * k) s))) i) ∙ sym (take-add 8 8 (drop (2 * k) s))
 
-  byte-is : (u : ℕ) → u < 16 → byte u (bytes 8 lo ++ bytes 8 hi) ≡ byte (2 * k + u) s
-  byte-is u h = ap (byte u) block-is ∙ getD-take 16 (drop (2 * k) s) u 0 h ∙ getD-drop (2 * k) s u 0
-
-  -- record t of the block is record k + t of the copy
-  pub slot-is : (t : ℕ) → t < 8 → slotOf (bytes 8 lo ++ bytes 8 hi) t ≡ slotOf s (k + t)
-  slot-is t h =
-      let p : 2 * k + 2 * t ≡ 2 * (k + t) = omega arith in
-      let q : 2 * k + (2 * t + 1) ≡ 2 * (k + t) + 1 = omega arith in
-      let x : byte (2 * t) (bytes 8 lo ++ bytes 8 hi) ≡ byte (2 * (k + t)) s = byte-is (2 * t) (omega arith) ∙ ap (λ (n : ℕ). byte n s) p in
-      let y : byte (2 * t + 1) (bytes 8 lo ++ bytes 8 hi) ≡ byte (2 * (k + t) + 1) s = byte-is (2 * t + 1) (omega arith) ∙ ap (λ (n : ℕ). byte n s) q in
-      (λ i. x i ∷ y i ∷ [])
-
   pub slots-agree : (g : Bytes → ℕ) → Agree (λ i. g (slotOf (bytes 8 lo ++ bytes 8 hi) i)) (λ i. g (slotOf s i)) 0 k 8
-  slots-agree g t h = ap (λ (n : ℕ). g (slotOf (bytes 8 lo ++ bytes 8 hi) n)) (zero-add t) ∙ ap g (slot-is t h)
+  slots-agree = part-agree s k 8 (bytes 8 lo ++ bytes 8 hi) block-is
 
   pub block-strides : (kd : Kind) → totalStrides kd (bytes 8 lo ++ bytes 8 hi) ≡ inlineStrides kd s k 8
   block-strides kd = strides-slots kd lo hi ∙ sum-same _ _ 0 k 8 (slots-agree (λ l. inline kd l .strides))

@@ -30,7 +30,7 @@ use Rattle.loc_window.proofs.MaskLaws.{block-mask, mask-none, mask-firs
 use Rattle.loc_window.proofs.SumLaws.{all-more, passed-more, after-at, step-inline, step-row, lacks-row}
 
 -- a sum in two parts
-sum-split : (g : ℕ → ℕ) (j n m : ℕ) → sumFrom g j (n + m) ≡ sumFrom g j n + sumFrom g (j + n) m
+pub sum-split : (g : ℕ → ℕ) (j n m : ℕ) → sumFrom g j (n + m) ≡ sumFrom g j n + sumFrom g (j + n) m
 unfolding sumFrom
 sum-split g j zero m =
     let p : sumFrom g (j + 0) m ≡ sumFrom g j m = ap (λ (t : ℕ). sumFrom g t m) (add-zero j) in
@@ -50,6 +50,12 @@ sum-none g j n e = ap (sumFrom g j) e
 sum-first : (g : ℕ → ℕ) (j n : ℕ) → 0 < n → sumFrom g j n ≡ g j + sumFrom g (j + 1) (n - 1)
 unfolding sumFrom
 sum-first g j n h = let e : n ≡ suc (n - 1) = omega arith in ap (sumFrom g j) e
+
+-- its term z, and those before and after it
+pub sum-at : (g : ℕ → ℕ) (j n z : ℕ) → z < n → sumFrom g j n ≡ sumFrom g j z + (g (j + z) + sumFrom g (j + z + 1) (n - z - 1))
+sum-at g j n z h =
+    let e : n ≡ z + (n - z) = omega arith in
+    ap (sumFrom g j) e ∙ sum-split g j z (n - z) ∙ ap (λ (t : ℕ). sumFrom g j z + t) (sum-first g (j + z) (n - z) (omega arith))
 
 -- ---- records that need no row
 
@@ -272,9 +278,7 @@ module _ (k : Kind) (f : ℕ) (s rows : Bytes) where
     first = mask-first k s j n z h (λ e. ne (w .isLeft ∙ e)) (ez ∙ ap (lowest 8) (w .isLeft))
 
     parts : (g : ℕ → ℕ) → sumFrom g j n ≡ sumFrom g j z + (g (j + z) + sumFrom g (j + z + 1) (n - z - 1))
-    parts g =
-        let e : n ≡ z + (n - z) = omega (arith, first .0) in
-        ap (sumFrom g j) e ∙ sum-split g j z (n - z) ∙ ap (λ (t : ℕ). sumFrom g j z + t) (sum-first g (j + z) (n - z) (omega (arith, first .0)))
+    parts g = sum-at g j n z (first .0)
 
     strides-parts : inlineStrides k s j n ≡ inlineStrides k s j z + (inline k (slotOf s (j + z)) .strides + inlineStrides k s (j + z + 1) (n - z - 1))
     strides-parts = parts (λ i. inline k (slotOf s i) .strides)

@@ -18,13 +18,13 @@ use Rattle.loc_leaf.specs.Bytes.{Bytes, byte, bytes}
 use Rattle.loc_leaf.specs.Block.{zeroBit, zeroMask, lowest}
 use Rattle.loc_leaf.specs.Slot.{needsRow}
 use Rattle.loc_leaf.proofs.Booleans.{is?}
-use Rattle.loc_leaf.proofs.Lanes.{byte-mask, carry-mask, bytes-8, mask-word, mask-append}
+use Rattle.loc_leaf.proofs.Lanes.{byte-mask, carry-mask, bytes-8, carries-8}
 use Rattle.loc_window.specs.Block.{slotOf, rowBit, rowMask}
 use Rattle.loc_window.proofs.BlockLaws.{word-mask, word-parts, low-bytes, two-bytes, Agree, agree-here, agree-next, slots-agree}
 
 -- ---- bits and bytes
 
-bit-lt : (b : Bool) → cond b 1 0 < 2
+pub bit-lt : (b : Bool) → cond b 1 0 < 2
 bit-lt true = omega arith
 bit-lt false = omega arith
 
@@ -136,6 +136,11 @@ pub block-mask : (s : Bytes) (k lo hi : ℕ) → bytes 8 lo ≡ take 8 (drop (2 
     → (kd : Kind) → rowMask kd (bytes 8 lo ++ bytes 8 hi) 0 8 ≡ rowMask kd s k 8
 block-mask s k lo hi el eh kd = mask-same kd (bytes 8 lo ++ bytes 8 hi) s 0 k 8 (slots-agree s k lo hi el eh (λ l. cond (needsRow kd l) 1 0))
 
+-- and is put together from those of its words
+pub words-append : (kd : Kind) (lo hi : ℕ) → rowMask kd (bytes 8 lo) 0 4 + 16 * rowMask kd (bytes 8 hi) 0 4 ≡ rowMask kd (bytes 8 lo ++ bytes 8 hi) 0 8
+unfolding rowMask bytes
+words-append kd lo hi = omega arith
+
 -- ---- a paired block
 
 pair-bit : (x y : ℕ) → cond (needsRow Paired (x ∷ y ∷ [])) 1 0 ≡ zeroBit x y
@@ -151,24 +156,39 @@ pair-mask-is lo hi =
     let bit : (t : ℕ) → cond (needsRow Paired (b (2 * t) ∷ b (2 * t + 1) ∷ [])) 1 0 ≡ zeroBit (b (2 * t)) (b (2 * t + 1)) = (λ t. pair-bit (b (2 * t)) (b (2 * t + 1))) in
     (λ i. bit 0 i + 2 * (bit 1 i + 2 * (bit 2 i + 2 * (bit 3 i + 2 * (bit 4 i + 2 * (bit 5 i + 2 * (bit 6 i + 2 * (bit 7 i + 2 * 0))))))))
 
--- the code's steps in full
-pub full-none : (w : ℕ) → w < 2 ^ 64 → bitAnd (bitAnd (bitAnd w byte-mask + byte-mask) (bitAnd (w / 2 ^ 8) byte-mask + byte-mask)) carry-mask ≡ carry-mask
-    → zeroMask (bytes 8 w) ≡ 0
-full-none w h e =
-    let gather : ℕ → ℕ = (λ z. bitAnd (z + z / 2 ^ 15 + z / 2 ^ 30 + z / 2 ^ 45) 15) in
-    sym (mask-word w h) ∙ ap (λ (n : ℕ). gather ((carry-mask - n) / 2 ^ 8)) e
+-- r has the carries of the records of w that need no row
+abbrev pub Full : ℕ → ℕ → Type 0
+Full w r =
+    r + 2 ^ 8 * rowBit Paired (bytes 8 w) 0 + 2 ^ 24 * rowBit Paired (bytes 8 w) 1 + 2 ^ 40 * rowBit Paired (bytes 8 w) 2 + 2 ^ 56 * rowBit Paired (bytes 8 w) 3
+    ≡ carry-mask
 
-pub none-zero-mask : (lo hi a b : ℕ) → a ≤ carry-mask → b ≤ carry-mask → (a ≡ carry-mask → zeroMask (bytes 8 lo) ≡ 0) → (b ≡ carry-mask → zeroMask (bytes 8 hi) ≡ 0)
-    → bitAnd a b ≡ carry-mask → rowMask Paired (bytes 8 lo ++ bytes 8 hi) 0 8 ≡ 0
-none-zero-mask lo hi a b ha hb za zb e =
-    let p : a ≡ carry-mask = omega (arith, and-le-l a b) in
-    let q : b ≡ carry-mask = omega (arith, and-le-r a b) in
-    pair-mask-is lo hi ∙ sym (mask-append lo hi) ∙ (λ i. za p i + 16 * zb q i)
+pub full-word : (w : ℕ) → w < 2 ^ 64 → Full w (bitAnd (bitAnd (bitAnd w byte-mask + byte-mask) (bitAnd (w / 2 ^ 8) byte-mask + byte-mask)) carry-mask)
+full-word w h =
+    let bit : (x y : ℕ) → (cond (needsRow Paired (x ∷ y ∷ [])) 1 0 ≡ zeroBit x y) × (cond (needsRow Paired (x ∷ y ∷ [])) 1 0 < 2) = (λ x y. (pair-bit x y, bit-lt (needsRow Paired (x ∷ y ∷ [])))) in
+    (λ i.
+    carries-8 w h i + 2 ^ 8 * rowBit Paired (bytes-8 w i) 0 + 2 ^ 24 * rowBit Paired (bytes-8 w i) 1 + 2 ^ 40 * rowBit Paired (bytes-8 w i) 2
+    + 2 ^ 56 * rowBit Paired (bytes-8 w i) 3)
+    ∙ omega (
+      arith,
+      bit (w % 256) (w / 2 ^ 8 % 256),
+      bit (w / 2 ^ 16 % 256) (w / 2 ^ 24 % 256),
+      bit (w / 2 ^ 32 % 256) (w / 2 ^ 40 % 256),
+      bit (w / 2 ^ 48 % 256) (w / 2 ^ 56 % 256),
+    )
+
+-- all carries are there: none of the word's records needs a row
+all-full : (w r : ℕ) → Full w r → carry-mask ≤ r → rowMask Paired (bytes 8 w) 0 4 ≡ 0
+unfolding rowMask
+all-full w r f h = omega arith
+
+pub none-zero-mask : (lo hi a b : ℕ) → Full lo a → Full hi b → bitAnd a b ≡ carry-mask → rowMask Paired (bytes 8 lo ++ bytes 8 hi) 0 8 ≡ 0
+none-zero-mask lo hi a b fa fb e =
+    sym (words-append Paired lo hi) ∙ (λ i. all-full lo a fa (omega (arith, and-le-l a b)) i + 16 * all-full hi b fb (omega (arith, and-le-r a b)) i)
 
 -- ---- a single block
 
 -- the code's WORD_CARRIES
-abbrev word-carries : ℕ
+abbrev pub word-carries : ℕ
 word-carries = 0x0001_0000_0001_0000
 
 reached : (n : ℕ) → 65536 ≤ n → n < 131072 → bitAnd n 65536 ≡ 65536
@@ -223,7 +243,7 @@ gathered a b x y z t hx hy hz ht e f =
     ∙ ap (λ (k : ℕ). k % 2 ^ 4) (ap (λ (k : ℕ). n + k) r ∙ v) ∙ low (2 ^ 28 * z + 2 ^ 29 * t) 4 (omega arith)
 
 module _ (w a b : ℕ) (even : Even w a) (odd : Even (w / 2 ^ 16) b) where
-  odd-is : b + 2 ^ 16 * rowBit Single (bytes 8 w) 1 + 2 ^ 48 * rowBit Single (bytes 8 w) 3 ≡ word-carries
+  pub odd-is : b + 2 ^ 16 * rowBit Single (bytes 8 w) 1 + 2 ^ 48 * rowBit Single (bytes 8 w) 3 ≡ word-carries
   odd-is = sym (λ i. b + 2 ^ 16 * record-1 w i + 2 ^ 48 * record-3 w i) ∙ odd
 
   four-full : word-carries ≤ a → word-carries ≤ b → rowMask Single (bytes 8 w) 0 4 ≡ 0
@@ -235,11 +255,6 @@ module _ (w a b : ℕ) (even : Even w a) (odd : Even (w / 2 ^ 16) b) where
   nibble-is = gathered a b _ _ _ _ (bit-lt (needsRow Single (slotOf (bytes 8 w) 0))) (bit-lt (needsRow Single (slotOf (bytes 8 w) 1)))
       (bit-lt (needsRow Single (slotOf (bytes 8 w) 2))) (bit-lt (needsRow Single (slotOf (bytes 8 w) 3))) even odd-is
 
--- the mask of a block
-pub single-append : (lo hi : ℕ) → rowMask Single (bytes 8 lo) 0 4 + 16 * rowMask Single (bytes 8 hi) 0 4 ≡ rowMask Single (bytes 8 lo ++ bytes 8 hi) 0 8
-unfolding rowMask bytes
-single-append lo hi = omega arith
-
 pub none-empty-mask : (lo hi a b c d : ℕ) → Even lo a → Even (lo / 2 ^ 16) b → Even hi c → Even (hi / 2 ^ 16) d
     → bitAnd (bitAnd (bitAnd a b) c) d ≡ word-carries → rowMask Single (bytes 8 lo ++ bytes 8 hi) 0 8 ≡ 0
 none-empty-mask lo hi a b c d ea eb ec ed e =
@@ -248,4 +263,4 @@ none-empty-mask lo hi a b c d ea eb ec ed e =
     let c-le : word-carries ≤ c = omega (arith, and-le-r (bitAnd a b) c) in
     let ab : word-carries ≤ bitAnd a b = omega (arith, and-le-l (bitAnd a b) c) in
     let low : rowMask Single (bytes 8 lo) 0 4 ≡ 0 = four-full lo a b ea eb (omega (arith, and-le-l a b)) (omega (arith, and-le-r a b)) in
-    sym (single-append lo hi) ∙ (λ i. low i + 16 * four-full hi c d ec ed c-le d-le i)
+    sym (words-append Single lo hi) ∙ (λ i. low i + 16 * four-full hi c d ec ed c-le d-le i)

@@ -6,7 +6,7 @@ use mathlib.Core.Bool.{Bool, _&&_}
 use mathlib.Core.List.{List}
 use native.Mathlib.Nat.{add-zero, not-suc-le-zero}
 use native.Mathlib.Omega.{arith}
-use lib.ListN.{getD, drop}
+use lib.ListN.{getD, take, drop}
 use lib.Seq.{getD-take, getD-drop}
 use Rattle.loc_leaf.specs.declared.Kind.{Kind}
 use Rattle.loc_leaf.specs.declared.delta_loc.Lookup.{Lookup}
@@ -55,6 +55,10 @@ sum-same g h f m e zero l = refl
 sum-same g h f m e (suc n) l = (λ t. sum-same g h f m e n (omega arith) t + e n l t)
 
 -- ---- in the areas themselves
+
+-- a part of the slots stands in for a copy of them
+pub part-copied : (slots : Bytes) (at n d : ℕ) → n ≤ d → Copied slots at n (take d (drop at slots)) (take d (drop at slots))
+part-copied slots at n d l = record { front = λ u h. getD-take d (drop at slots) u 0 (omega arith) ∙ getD-drop at slots u 0; rest = λ u h. refl }
 
 module _ (k : Kind) (a : Areas) (f m : ℕ) (bytes old : Bytes) (w : Copied (a .slots) (16 + 2 * f) (2 * m) old bytes) where
   slot-byte : (j t : ℕ) → j < m → t < 2 → byte t (slotAt (a .slots) (f + suc j)) ≡ byte (2 * j + t) bytes

@@ -7,19 +7,19 @@ ghost use Prim.Native.Nat.{_+_, _*_, _/_, _^_, _<_, _≤_};
 ghost use lib.ListN.{length, take, drop};
 ghost use Rattle.loc_leaf.specs.declared.Kind.the-variants.{Paired, Single};
 ghost use Rattle.loc_leaf.specs.Bytes.{bytes};
-ghost use Rattle.loc_leaf.specs.Block.{firsts, seconds, zeroMask};
+ghost use Rattle.loc_leaf.specs.Block.{firsts, seconds};
 ghost use Rattle.loc_window.specs.Block.{total, rowBit, rowMask};
 use loc_leaf::file::eight;
 use loc_leaf::loc_simd::zero_mask;
 
 // The low byte of each of four lanes of sixteen bits.
-const BYTES: u64 = 0x00ff_00ff_00ff_00ff;
+pub const BYTES: u64 = 0x00ff_00ff_00ff_00ff;
 
 // The bit above that byte.
 const CARRIES: u64 = 0x0100_0100_0100_0100;
 
 // The low sixteen bits of each of two lanes of thirty-two.
-const WORDS: u64 = 0x0000_ffff_0000_ffff;
+pub const WORDS: u64 = 0x0000_ffff_0000_ffff;
 
 // The bit above them.
 const WORD_CARRIES: u64 = 0x0001_0000_0001_0000;
@@ -66,14 +66,14 @@ pub fn strides_total(lo: u64, hi: u64) -> u64
 }
 
 // The carry of each of a word's records of which no byte is 0: a byte that is not 0, with 255 added, reaches the bit above it.
-fn full(w: u64) -> u64
-    ensures { λ r. ⌜ (r ≤ 0x0100_0100_0100_0100) × (r ≡ 0x0100_0100_0100_0100 → zeroMask (bytes 8 w) ≡ 0) ⌝ }
+pub fn full(w: u64) -> u64
+    ensures { λ r. ⌜ r + 2 ^ 8 * rowBit Paired (bytes 8 w) 0 + 2 ^ 24 * rowBit Paired (bytes 8 w) 1 + 2 ^ 40 * rowBit Paired (bytes 8 w) 2 + 2 ^ 56 * rowBit Paired (bytes 8 w) 3 ≡ 0x0100_0100_0100_0100 ⌝ }
 {
     ((w & BYTES) + BYTES) & (((w >> 8) & BYTES) + BYTES) & CARRIES
 }
 
 // The carry of a word's records 0 and 2 where their sixteen bits are not all 0.
-fn even_full(w: u64) -> u64
+pub fn even_full(w: u64) -> u64
     ensures { λ r. ⌜ r + 2 ^ 16 * rowBit Single (bytes 8 w) 0 + 2 ^ 48 * rowBit Single (bytes 8 w) 2 ≡ 0x0001_0000_0001_0000 ⌝ }
 {
     ((w & WORDS) + WORDS) & WORD_CARRIES

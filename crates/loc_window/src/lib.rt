@@ -2,6 +2,7 @@
 // This crate is inner: its callers prove what it requires.
 pub mod block;
 pub mod blocks;
+pub mod checkpoint;
 pub mod records;
 pub mod rows;
 pub mod window;

@@ -25,7 +25,7 @@ fn half_at(s: &[u8], at: usize) -> u32
 }
 
 // The number of the row at a place.
-fn row_number(kind: Kind, rows: &[u8], count: usize, row: usize) -> u64
+pub fn row_number(kind: Kind, rows: &[u8], count: usize, row: usize) -> u64
     requires { ⌜ Rising kind (now rows) count × (row < count) ⌝ }
     ensures { λ r. ⌜ r ≡ numberIn (rowList kind (now (rows .entry))) row ⌝ }
 {

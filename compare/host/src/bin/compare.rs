@@ -29,7 +29,8 @@ fn main() {
     let begun = Instant::now();
     let named = named::run(&folder, &mut tally, false, &mut |_, _| {})
         .unwrap_or_else(|(message, steps)| differs(&folder, None, &message, &steps));
-    let texts = listing::named(&mut tally).unwrap_or_else(|(message, steps)| differs(&folder, None, &message, &steps));
+    let texts =
+        listing::named(&folder, &mut tally).unwrap_or_else(|(message, steps)| differs(&folder, None, &message, &steps));
     let addresses =
         span_at::named(&folder, &mut tally).unwrap_or_else(|(message, steps)| differs(&folder, None, &message, &steps));
     let worlds = match one {
@@ -55,7 +56,7 @@ fn main() {
         let ran = std::panic::catch_unwind(std::panic::AssertUnwindSafe(|| {
             history::run(this, &folder, &mut tally)?;
             if with_others {
-                listing::run(this, &mut tally)?;
+                listing::run(this, &folder, &mut tally)?;
                 span_at::run(this, &folder, &mut tally)?;
             }
             Ok(())

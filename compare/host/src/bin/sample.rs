@@ -9,14 +9,16 @@ use host::{history, named};
 /// Bytes of the whole file, for which the replay has room for 200,000, and of one history.
 const MOST: usize = 180_000;
 const MOST_OF_ONE: usize = 1_600;
-/// So often each number of the original's and an audit of unsound areas are to come, if the histories have them.
+/// So often each number, an append's 17 and an audit of unsound areas are to come, if the histories have them.
 const OF_EACH: u64 = 12;
 
+#[derive(Default)]
 struct Sample {
     bytes: Vec<u8>,
     cases: u64,
     answers: u64,
     numbers: [[u64; NUMBERS]; 2],
+    unreadable: [u64; 2],
     audits: [[u64; 2]; 2],
 }
 
@@ -29,12 +31,14 @@ impl Sample {
         self.cases += 1;
         self.answers += tape.calls;
         self.numbers[kind as usize].iter_mut().zip(tape.numbers).for_each(|(sum, n)| *sum += n);
+        self.unreadable[kind as usize] += tape.unreadable;
         self.audits[kind as usize].iter_mut().zip(tape.audits).for_each(|(sum, n)| *sum += n);
     }
 
     /// Whether the tape has a refusal, or an audit of unsound areas, that the sample lacks.
     fn lacks(&self, kind: Kind, tape: &Tape) -> bool {
         (1..NUMBERS).any(|n| tape.numbers[n] > 0 && self.numbers[kind as usize][n] < OF_EACH)
+            || tape.unreadable > 0 && self.unreadable[kind as usize] < OF_EACH
             || tape.audits[0] > 0 && self.audits[kind as usize][0] < OF_EACH
     }
 }
@@ -46,13 +50,12 @@ fn main() {
     };
     let folder = Folder::new();
     let mut tally = Tally::default();
-    let mut sample =
-        Sample { bytes: Vec::new(), cases: 0, answers: 0, numbers: [[0; NUMBERS]; 2], audits: [[0; 2]; 2] };
+    let mut sample = Sample::default();
     named::run(&folder, &mut tally, true, &mut |kind, tape| sample.take(kind, &tape))
         .expect("no difference in a named case");
     // first the refusals, of which few come by chance, then whatever comes
     for rare in [true, false] {
-        for seed in if rare { 1..6_000 } else { 6_000..9_000 } {
+        for seed in if rare { 1..9_000 } else { 9_000..12_000 } {
             let tape =
                 history::taped(seed, &folder, &mut tally, Some(Tape::default())).expect("no difference in a history");
             let tape = tape.expect("a tape was given");
@@ -70,9 +73,10 @@ fn main() {
         let list: Vec<String> = (0..NUMBERS).filter(|&n| list[n] > 0).map(|n| format!("{n}: {}", list[n])).collect();
         let [unsound, sound] = sample.audits[kind as usize];
         println!(
-            "numbers, {}: {}; audits: {sound} of sound and {unsound} of unsound areas",
+            "numbers, {}: {}; of the 17s {} are of appends; audits: {sound} of sound and {unsound} of unsound areas",
             kind.name(),
-            list.join(", ")
+            list.join(", "),
+            sample.unreadable[kind as usize]
         );
     }
 }

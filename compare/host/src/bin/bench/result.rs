@@ -272,7 +272,7 @@ fn storing(run: &Run) {
         ratio(append.least()),
         ratio(append.largest())
     );
-    println!("Append goes over all rows too, which the original does not:\n");
+    println!("Append goes over all rows too, and adds up the records of the last window to know where the list ends; the original does neither:\n");
     head("| published rows | open | append | truncation |");
     for class in CLASSES.into_iter().filter(|class| !of("append", *class).0.is_empty()) {
         let cells = ["open", "append", "truncation"].map(|call| range(&of(call, class)));

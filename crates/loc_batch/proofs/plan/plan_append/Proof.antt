@@ -22,19 +22,19 @@ returns : tie.Need-returns
 unfolding count
 returns c = plan-empty (c .before .before .before .before .before .before .before .before .before .before .before .before .args .kind) (areas (now (c .before .before .before .before .before .before .before .before .before .before .before .before .args .slots)) (now (c .before .before .before .before .before .before .before .before .before .before .before .before .args .rows)) (now (c .before .before .before .before .before .before .before .before .before .before .before .before .args .checkpoints))) (batch (now (c .before .before .before .before .before .before .before .before .before .before .before .before .args .starts)) (now (c .before .before .before .before .before .before .before .before .before .before .before .before .args .lens)) (now (c .before .before .before .before .before .before .before .before .before .before .before .before .args .span-starts)) (now (c .before .before .before .before .before .before .before .before .before .before .before .before .args .span-counts))) _ (c .before .before .lists-agree .ensures) (c .before .if1 .taken) _ (c .before .before .before .before .ends .ensures) _ (c .before .before .before .piece-count .ensures .0) _ refl (c .if2 .taken) (omega arith)
 
-check-batch-requires : tie.Need-check-batch-requires
-check-batch-requires c κs = (search needs, all-held _ _ _ (c .before .before .lists-agree .ensures) (c .before .if1 .taken))
+check-append-requires : tie.Need-check-append-requires
+check-append-requires c κs = ((c .before .before .before .before .before .before .before .before .before .before .before .before .pre, c .before .before .before .piece-count .ensures .0, search needs), all-held _ _ _ (c .before .before .lists-agree .ensures) (c .before .if1 .taken))
 
 returns-2 : tie.Need-returns-2
 unfolding count
-returns-2 c = plan-refused (c .before .before .before .before .before .before .before .before .before .before .before .before .before .before .args .kind) (areas (now (c .before .before .before .before .before .before .before .before .before .before .before .before .before .before .args .slots)) (now (c .before .before .before .before .before .before .before .before .before .before .before .before .before .before .args .rows)) (now (c .before .before .before .before .before .before .before .before .before .before .before .before .before .before .args .checkpoints))) (batch (now (c .before .before .before .before .before .before .before .before .before .before .before .before .before .before .args .starts)) (now (c .before .before .before .before .before .before .before .before .before .before .before .before .before .before .args .lens)) (now (c .before .before .before .before .before .before .before .before .before .before .before .before .before .before .args .span-starts)) (now (c .before .before .before .before .before .before .before .before .before .before .before .before .before .before .args .span-counts))) _ (c .before .before .before .before .lists-agree .ensures) (c .before .before .before .if1 .taken) _ (c .before .before .before .before .before .before .ends .ensures) _ (c .before .before .before .before .before .piece-count .ensures .0) _ refl (c .before .before .if2 .left) _ _ (c .before .check-batch .ensures) _ (c .if3 .taken)
+returns-2 c = plan-refused (c .before .before .before .before .before .before .before .before .before .before .before .before .before .before .args .kind) (areas (now (c .before .before .before .before .before .before .before .before .before .before .before .before .before .before .args .slots)) (now (c .before .before .before .before .before .before .before .before .before .before .before .before .before .before .args .rows)) (now (c .before .before .before .before .before .before .before .before .before .before .before .before .before .before .args .checkpoints))) (batch (now (c .before .before .before .before .before .before .before .before .before .before .before .before .before .before .args .starts)) (now (c .before .before .before .before .before .before .before .before .before .before .before .before .before .before .args .lens)) (now (c .before .before .before .before .before .before .before .before .before .before .before .before .before .before .args .span-starts)) (now (c .before .before .before .before .before .before .before .before .before .before .before .before .before .before .args .span-counts))) _ (c .before .before .before .before .lists-agree .ensures) (c .before .before .before .if1 .taken) _ (c .before .before .before .before .before .before .ends .ensures) _ (c .before .before .before .before .before .piece-count .ensures .0) _ refl (c .before .before .if2 .left) _ _ (c .before .check-append .ensures) _ (c .if3 .taken)
 
 reach-requires : tie.Need-reach-requires
 reach-requires c κs = (ends-inside _ _ (c .before .before .before .before .before .before .ends .ensures) .0, ends-inside _ _ (c .before .before .before .before .before .before .ends .ensures) .1, ends-inside _ _ (c .before .before .before .before .before .before .ends .ensures) .2, omega (arith, c .before .before .before .before .before .piece-count .ensures .1))
 
 returns-3 : tie.Need-returns-3
 unfolding count
-returns-3 c = plan-reached (c .before .before .before .before .before .before .before .before .before .before .before .before .before .before .before .args .kind) (areas (now (c .before .before .before .before .before .before .before .before .before .before .before .before .before .before .before .args .slots)) (now (c .before .before .before .before .before .before .before .before .before .before .before .before .before .before .before .args .rows)) (now (c .before .before .before .before .before .before .before .before .before .before .before .before .before .before .before .args .checkpoints))) (batch (now (c .before .before .before .before .before .before .before .before .before .before .before .before .before .before .before .args .starts)) (now (c .before .before .before .before .before .before .before .before .before .before .before .before .before .before .before .args .lens)) (now (c .before .before .before .before .before .before .before .before .before .before .before .before .before .before .before .args .span-starts)) (now (c .before .before .before .before .before .before .before .before .before .before .before .before .before .before .before .args .span-counts))) _ (c .before .before .before .before .before .lists-agree .ensures) (c .before .before .before .before .if1 .taken) _ (c .before .before .before .before .before .before .before .ends .ensures) _ (c .before .before .before .before .before .before .piece-count .ensures .0) _ refl (c .before .before .before .if2 .left) _ _ (c .before .before .check-batch .ensures) (c .before .if3 .left) _ (c .reach .ensures)
+returns-3 c = plan-reached (c .before .before .before .before .before .before .before .before .before .before .before .before .before .before .before .args .kind) (areas (now (c .before .before .before .before .before .before .before .before .before .before .before .before .before .before .before .args .slots)) (now (c .before .before .before .before .before .before .before .before .before .before .before .before .before .before .before .args .rows)) (now (c .before .before .before .before .before .before .before .before .before .before .before .before .before .before .before .args .checkpoints))) (batch (now (c .before .before .before .before .before .before .before .before .before .before .before .before .before .before .before .args .starts)) (now (c .before .before .before .before .before .before .before .before .before .before .before .before .before .before .before .args .lens)) (now (c .before .before .before .before .before .before .before .before .before .before .before .before .before .before .before .args .span-starts)) (now (c .before .before .before .before .before .before .before .before .before .before .before .before .before .before .before .args .span-counts))) _ (c .before .before .before .before .before .lists-agree .ensures) (c .before .before .before .before .if1 .taken) _ (c .before .before .before .before .before .before .before .ends .ensures) _ (c .before .before .before .before .before .before .piece-count .ensures .0) _ refl (c .before .before .before .if2 .left) _ _ (c .before .before .check-append .ensures) (c .before .if3 .left) _ (c .reach .ensures)
 
 returns-4 : tie.Need-returns-4
 returns-4 c = plan-uneven (c .before .before .before .before .before .before .before .before .before .before .before .args .kind) (areas (now (c .before .before .before .before .before .before .before .before .before .before .before .args .slots)) (now (c .before .before .before .before .before .before .before .before .before .before .before .args .rows)) (now (c .before .before .before .before .before .before .before .before .before .before .before .args .checkpoints))) (batch (now (c .before .before .before .before .before .before .before .before .before .before .before .args .starts)) (now (c .before .before .before .before .before .before .before .before .before .before .before .args .lens)) (now (c .before .before .before .before .before .before .before .before .before .before .before .args .span-starts)) (now (c .before .before .before .before .before .before .before .before .before .before .before .args .span-counts))) _ (c .before .lists-agree .ensures) _ (c .if1 .left)
@@ -47,7 +47,7 @@ plan-append-spec =
     piece-count-requires
     lists-agree-requires
     returns
-    check-batch-requires
+    check-append-requires
     returns-2
     reach-requires
     returns-3

@@ -4,7 +4,7 @@ use lib.ListN.{length}
 use borrow.Author.Needs.{needs}
 use denote.Ref.{now}
 use Rattle.loc_read.proofs.ReadLaws.{read-first, read-15, read-16, read-tested}
-use Rattle.loc_read.proofs.WindowLaws.{width-low}
+use Rattle.loc_window.proofs.CheckpointLaws.{width-low}
 use Rattle.loc_calls.specs.Areas.{areas}
 use Rattle.loc_read.proofs.read.range_batch.Statement.{statement}
 use Rattle.loc_read.proofs.read.range_batch.Tie as tie

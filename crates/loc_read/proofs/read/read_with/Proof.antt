@@ -7,7 +7,7 @@ use lib.ListN.{length}
 use borrow.Author.Needs.{needs}
 use denote.Ref.{now}
 use Rattle.loc_read.proofs.ReadLaws.{readable, read-17, read-done, words-fit}
-use Rattle.loc_read.proofs.WindowLaws.{width-low}
+use Rattle.loc_window.proofs.CheckpointLaws.{width-low}
 use Rattle.loc_leaf.specs.Area.{fill}
 use Rattle.loc_read.proofs.read.read_with.Statement.{statement}
 use Rattle.loc_read.proofs.read.read_with.Tie as tie

@@ -10,7 +10,8 @@ use Rattle.loc_window.proofs.PassedLaws.{few-rows}
 use Rattle.loc_leaf.specs.Kind.{windowOf}
 use Rattle.loc_calls.specs.Areas.{areas}
 use Rattle.loc_window.proofs.SummingLaws.{summing-asks, summing-more, summing-next}
-use Rattle.loc_read.proofs.WindowLaws.{end-of-bodies, end-of-spans, summing-none}
+use Rattle.loc_window.proofs.CheckpointLaws.{end-of-bodies, end-of-spans}
+use Rattle.loc_read.proofs.WindowLaws.{summing-none}
 use Rattle.loc_read.proofs.WalkLaws.{run-published, ordered-keys, passing-none, run-few, run-room, run-low, run-lacks, run-safe, passing-next, finished-17, finished-0}
 use Rattle.loc_read.proofs.RunLaws.{key-there}
 use Rattle.loc_read.specs.Walk.{Passing}

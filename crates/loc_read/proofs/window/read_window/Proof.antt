@@ -7,7 +7,8 @@ use borrow.Author.Needs.{needs}
 use denote.Ref.{now}
 use Rattle.loc_leaf.specs.Area.{fill}
 use Rattle.loc_read.proofs.RunLaws.{own-first, own-some}
-use Rattle.loc_read.proofs.WindowLaws.{end-of-bodies, end-of-spans, summing-none}
+use Rattle.loc_window.proofs.CheckpointLaws.{end-of-bodies, end-of-spans}
+use Rattle.loc_read.proofs.WindowLaws.{summing-none}
 use Rattle.loc_read.proofs.WalkLaws.{passing-none, run-few, run-room, run-low, run-lacks, run-safe, passing-next, finished-17, finished-own}
 use Rattle.loc_read.proofs.ReadLaws.{readable, slots-room, read-17, read-own}
 use Rattle.loc_read.proofs.window.read_window.Statement.{statement}

@@ -1,10 +1,9 @@
 -- `loc_window::block::full` meets its contract.
--- It has the first steps of the leaf crate's mask of a word.
-use Prim.Native.Nat.{_+_, _/_, _^_}
+use Prim.Native.Nat.{_/_, _^_}
 use native.Mathlib.Omega.{arith}
-use lib.Bits.{bitAnd, and-le-r}
-use Rattle.loc_leaf.proofs.Lanes.{byte-mask, carry-mask}
-use Rattle.loc_window.proofs.MaskLaws.{full-none}
+use lib.Bits.{and-le-r}
+use Rattle.loc_leaf.proofs.Lanes.{byte-mask}
+use Rattle.loc_window.proofs.MaskLaws.{full-word}
 use Rattle.loc_window.proofs.block.full.Statement.{statement}
 use Rattle.loc_window.proofs.block.full.Tie as tie
 
@@ -15,10 +14,7 @@ add-result-2 : tie.Need-add-result-2
 add-result-2 c = omega (arith, and-le-r (c .args .w / 2 ^ 8) byte-mask)
 
 returns : tie.Need-returns
-returns c = (
-  and-le-r (bitAnd (bitAnd (c .args .w) byte-mask + byte-mask) (bitAnd (c .args .w / 2 ^ 8) byte-mask + byte-mask)) carry-mask,
-  full-none (c .args .w) (c .fits .w .fits),
-)
+returns c = full-word (c .args .w) (c .fits .w .fits)
 
 pub full-spec : {M : Type 1} → statement M
 full-spec = tie.close (tie.spec add-result add-result-2 returns)

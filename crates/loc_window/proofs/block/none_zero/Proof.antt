@@ -16,7 +16,7 @@ returns : tie.Need-returns
 returns c t =
     let lo = c .before .before .args .lo in
     let hi = c .before .before .args .hi in
-    none-zero-mask lo hi _ _ (c .before .full .ensures .0) (c .full2 .ensures .0) (c .before .full .ensures .1) (c .full2 .ensures .1) (eqb-true _ _ t)
+    none-zero-mask lo hi _ _ (c .before .full .ensures) (c .full2 .ensures) (eqb-true _ _ t)
 
 pub none-zero-spec : {M : Type 1} → statement M
 none-zero-spec = tie.close (tie.spec full-requires full-requires-2 returns)

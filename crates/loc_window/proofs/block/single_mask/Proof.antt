@@ -4,7 +4,8 @@ use borrow.Author.Needs.{needs}
 use Prim.Native.Nat.{_+_, _*_}
 use mathlib.Core.Path.{_∙_}
 use native.Mathlib.Omega.{arith}
-use Rattle.loc_window.proofs.MaskLaws.{single-append}
+use Rattle.loc_leaf.specs.declared.Kind.the-variants.{Single}
+use Rattle.loc_window.proofs.MaskLaws.{words-append}
 use Rattle.loc_window.proofs.block.single_mask.Statement.{statement}
 use Rattle.loc_window.proofs.block.single_mask.Tie as tie
 
@@ -22,7 +23,7 @@ add-result c = search needs
 
 returns : tie.Need-returns
 returns c =
-    ((λ i. c .before .nibble .ensures .0 i + 16 * c .nibble2 .ensures .0 i) ∙ single-append (c .before .before .args .lo) (c .before .before .args .hi), omega arith)
+    ((λ i. c .before .nibble .ensures .0 i + 16 * c .nibble2 .ensures .0 i) ∙ words-append Single (c .before .before .args .lo) (c .before .before .args .hi), omega arith)
 
 pub single-mask-spec : {M : Type 1} → statement M
 single-mask-spec =

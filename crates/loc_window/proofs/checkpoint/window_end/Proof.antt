@@ -1,11 +1,11 @@
--- `loc_read::walk::window_end` meets its contract.
+-- `loc_window::checkpoint::window_end` meets its contract.
 use Prim.Native.Nat.{_-_}
 use native.Mathlib.Omega.{arith}
 use borrow.Author.Needs.{needs}
 use denote.Ref.{now}
-use Rattle.loc_read.proofs.WindowLaws.{end-zero, end-some, width-low}
-use Rattle.loc_read.proofs.walk.window_end.Statement.{statement}
-use Rattle.loc_read.proofs.walk.window_end.Tie as tie
+use Rattle.loc_window.proofs.CheckpointLaws.{end-zero, end-some, width-low}
+use Rattle.loc_window.proofs.checkpoint.window_end.Statement.{statement}
+use Rattle.loc_window.proofs.checkpoint.window_end.Tie as tie
 
 returns : tie.Need-returns
 returns c = (λ s t h. search (needs, end-zero))
