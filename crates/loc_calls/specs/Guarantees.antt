@@ -36,7 +36,7 @@ lentTo (locating x) = 0 ∷ 0 ∷ 0 ∷ []
 
 -- the table's largest number
 abbrev pub largest : ℕ
-largest = 24
+largest = 26
 
 -- the column "Number": a call gives 0 or a number of the table
 unfoldable pub InTable : (Areas → Outcome) → Type 0

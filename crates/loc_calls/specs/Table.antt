@@ -2,7 +2,7 @@
 -- The index and the book both refuse by this table.
 use Prim.Native.Nat.{ℕ, _+_, _-_, _*_, _/_, _^_, min}
 use mathlib.Core.Bool.{Bool, false, not, _&&_}
-use mathlib.Core.List.{List, [], _∷_}
+use mathlib.Core.List.{List, [], _∷_, map}
 use lib.Dec.{ltb, eqb}
 use lib.ListN.{length, replicate}
 use Rattle.loc_leaf.specs.declared.Kind.{Kind}
@@ -62,6 +62,10 @@ zipped [] ls ps cs = []
 unfoldable pub entries : Kind → Batch → List Entry
 entries Paired b = zipped (b .starts) (b .lens) (b .spanStarts) (b .spanCounts)
 entries Single b = zipped (b .starts) (b .lens) (replicate (length (b .lens)) 16) (replicate (length (b .lens)) 0)
+
+-- and back: the lists of paired records
+abbrev pub batchOf : List Entry → Batch
+batchOf es = batch (map (λ (e : Entry). e .start) es) (map (λ (e : Entry). e .len) es) (map (λ (e : Entry). e .spanStart) es) (map (λ (e : Entry). e .spans) es)
 
 -- a reading stores per wanted number six 64-bit words or, single, three
 abbrev pub wordWidth : Kind → ℕ

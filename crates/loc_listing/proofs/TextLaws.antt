@@ -14,7 +14,7 @@ use lib.Seq.{sets, take-suc, take-all, drop-set-add, take-set-le}
 use borrow.Author.Tests.{lt-ltb, le-ltb, lt-leb, le-leb, ltb-true, leb-true}
 use borrow.Rule.Slice.PartMut.{putMid}
 use Rattle.loc_leaf.proofs.Booleans.{both-left, both-right}
-use Rattle.loc_listing.specs.Text.{digits, decimal, line, recordLine, recordLines, refusedLine, fits, windowText, refusedText, Put}
+use Rattle.loc_listing.specs.Text.{digits, decimal, line, recordLine, recordLines, refusedLine, fits, lineText, windowText, refusedText, Put}
 
 sets-append : (l : List ℕ) (i : ℕ) (xs ys : List ℕ) → sets l i (xs ++ ys) ≡ sets (sets l i xs) (i + length xs) ys
 sets-append l i [] ys = ap (λ (j : ℕ). sets l j ys) (omega arith)
@@ -113,6 +113,15 @@ unfolding recordLines recordLine
 lines-more first ws i f g = rw add-one (put-then _ _ f g)
 
 -- ---- where text may not fit
+
+module _ (ns out : List ℕ) where
+  pub line-none : length out < 126 → Put out 0 (lineText ns (length out)) out 0 × (0 ≤ length out) × (0 ≤ 126)
+  unfolding lineText
+  line-none h = (rw (lt-leb 126 (length out) h) (put-nothing out 0), omega arith, omega arith)
+
+  pub line-put : (out₁ : List ℕ) (r : ℕ) → 126 ≤ length out → Put out 0 (line ns) out₁ r → r ≤ 0 + 126 → Put out 0 (lineText ns (length out)) out₁ r × (r ≤ length out) × (r ≤ 126)
+  unfolding lineText
+  line-put out₁ r h p l = (rw (le-leb 126 (length out) h) p, omega arith, omega arith)
 
 module _ (first words n room : ℕ) where
   pub no-room : room / 126 < n → false ≡ fits first words n room

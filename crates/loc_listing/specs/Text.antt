@@ -55,6 +55,9 @@ refusedLine n = 114 ∷ 101 ∷ 102 ∷ 117 ∷ 115 ∷ 101 ∷ 100 ∷ 32 ∷ (
 -- ---- in a buffer of so many bytes; where it may not fit there is no text
 
 -- a line has at most 126 bytes: six numbers of at most 20, each ended by one byte
+unfoldable pub lineText : List ℕ → ℕ → List ℕ
+lineText ns room = cond (leb 126 room) (line ns) []
+
 unfoldable pub fits : ℕ → ℕ → ℕ → ℕ → Bool
 fits first words n room = leb (126 * n) room && leb (6 * n) words && ltb (first + n) (2 ^ 64)
 

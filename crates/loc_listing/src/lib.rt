@@ -6,7 +6,7 @@ ghost use mathlib.Core.List.{[], _∷_, _++_};
 ghost use Prim.Native.Nat.{_+_, _*_, _^_, _≤_, _<_};
 ghost use mathlib.Core.Path.{_≡_};
 ghost use lib.ListN.{length};
-ghost use Rattle.loc_listing.specs.Text.{digits, decimal, line, recordLines, windowText, refusedText, fits, Put};
+ghost use Rattle.loc_listing.specs.Text.{digits, decimal, line, recordLines, lineText, windowText, refusedText, fits, Put};
 
 // Bytes copied to the start of a buffer. The answer is how many there are.
 fn put_bytes(from: &[u8], out: &mut [u8]) -> usize
@@ -67,6 +67,33 @@ fn put_line(
     let d = put_field(out, c, span_start, b' ');
     let e = put_field(out, d, span_len, b' ');
     put_field(out, e, spans, b'\n')
+}
+
+// The line of one record. The answer is how many bytes it has.
+pub fn line_text(
+    id: u64,
+    body_start: u64,
+    body_len: u64,
+    span_start: u64,
+    span_len: u64,
+    spans: u64,
+    out: &mut [u8],
+) -> usize
+    ensures { λ r. ⌜ Put (now (out .entry)) 0 (lineText (id ∷ «body_start» ∷ «body_len» ∷ «span_start» ∷ «span_len» ∷ spans ∷ []) (length (now (out .entry)))) (now (out .exit)) r × (r ≤ length (now (out .entry))) × (r ≤ 126) ⌝ }
+{
+    if out.len() < 126 {
+        return 0;
+    }
+    put_line(
+        out,
+        0,
+        id,
+        body_start,
+        body_len,
+        span_start,
+        span_len,
+        spans,
+    )
 }
 
 // The lines of n records from `first` on, whose answers stand in a buffer as a paired reading stores them.

@@ -103,3 +103,9 @@ is-told (Known v p) (Known w q) t = rw (t .1, t .2) refl
 is-told (Known v p) Malformed t = absurd (omega (arith, t .0))
 is-told Malformed (Known w q) t = absurd (omega (arith, t .0))
 is-told Malformed Malformed t = refl
+
+-- a number that is not refused is known
+pub known : (n : Number) → numberRefusal n ≡ 0 → n ≡ Known (valueIn n) (placeIn n)
+unfolding numberRefusal valueIn placeIn
+known (Known v p) e = refl
+known Malformed e = absurd (omega (arith, e))

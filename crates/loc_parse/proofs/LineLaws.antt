@@ -9,7 +9,7 @@ use Rattle.loc_number.specs.declared.Number.{Number}
 use Rattle.loc_number.specs.declared.Number.the-variants.{Known, Malformed}
 use Rattle.loc_number.specs.Decimal.{numberAt, Told}
 use Rattle.loc_number.proofs.NumberLaws.{is-told}
-use Rattle.loc_number.proofs.SpellLaws.{number-spelled}
+use Rattle.loc_number.proofs.SpellLaws.{number-small}
 use Rattle.loc_parse.specs.declared.Fields.{Fields}
 use Rattle.loc_parse.specs.declared.Line.{Line}
 use Rattle.loc_parse.specs.declared.Line.the-variants.{Whole, Broken}
@@ -42,7 +42,7 @@ module _ (most end : ℕ) (xs : List ℕ) (at : ℕ) (n : Number) (f : ℕ → �
 
 -- a span count has 32 bits
 pub count-fits : (xs : List ℕ) (at : ℕ) (n : Number) → Told n (numberAt (2 ^ 32 - 1) 10 xs at) → (v p : ℕ) → n ≡ Known v p → v < 2 ^ 32
-count-fits xs at n e v p q = omega (arith, number-spelled (2 ^ 32 - 1) 10 (omega arith) xs at v p (sym (is-told _ _ e) ∙ q) .small)
+count-fits xs at n e v p q = omega (arith, number-small (2 ^ 32 - 1) 10 (omega arith) xs at v p (sym (is-told _ _ e) ∙ q))
 
 -- ---- 19 and 20
 

@@ -9,26 +9,18 @@ use native.Mathlib.Omega.{arith}
 use lib.Dec.{leb}
 use lib.ListN.{length, length-append}
 use borrow.Author.Tests.{le-leb, lt-leb, eq-eqb}
-use Rattle.loc_calls.specs.Table.{Entry, Batch, batch}
+use Rattle.loc_calls.specs.Table.{Entry, Batch, batch, batchOf}
 use Rattle.loc_calls.specs.Calls.{unlessRefused}
 use Rattle.loc_listing.specs.Text.{decimal, line, names, begins}
+use Rattle.loc_listing.specs.Listing.{entryLine, entryLines}
 use Rattle.loc_listing.proofs.NamesLaws.{names-long}
 use Rattle.loc_parse.specs.declared.Fields.{Fields}
 use Rattle.loc_parse.specs.declared.Line.the-variants.{Whole}
 use Rattle.loc_parse.specs.Lines.{lineAt, fieldsRefusal, parsedAs, added, ifWhole, linesFrom, empty, parsed}
 use Rattle.loc_parse.proofs.LineBack.{line-back}
 
--- ---- the lines of a list
+-- ---- the numbers of a record fit their widths
 
-unfoldable pub entryLine : ℕ → Entry → List ℕ
-entryLine id e = line (id ∷ e .start ∷ e .len ∷ e .spanStart ∷ 8 * e .spans ∷ e .spans ∷ [])
-
--- numbered from m + 1
-unfoldable pub entryLines : ℕ → List Entry → List ℕ
-entryLines m [] = []
-entryLines m (e ∷ es) = entryLine (suc m) e ++ entryLines (suc m) es
-
--- the numbers of a record fit their widths
 pub record Fit (e : Entry) : Type 0 where
   pub start : e .start < 2 ^ 64
   pub len : e .len < 2 ^ 64
@@ -106,7 +98,7 @@ begins-own [] ys = refl
 begins-own (x ∷ xs) ys = rw (eq-eqb x x refl) (begins-own xs ys)
 
 -- the text of at most 1,024 records that follow m others
-pub text-back : (E : List Entry) (m : ℕ) → length E ≤ 1024 → m + length E < 2 ^ 64 → AllFit E → parsed m (names ++ entryLines m E) ≡ parsedAs 0 (joined empty E)
+pub text-back : (E : List Entry) (m : ℕ) → length E ≤ 1024 → m + length E < 2 ^ 64 → AllFit E → parsed m (names ++ entryLines m E) ≡ parsedAs 0 (batchOf E)
 unfolding parsed
 text-back E m h l f =
     rw (begins-own names (entryLines m E))

@@ -12,16 +12,17 @@ use borrow.Author.Tests.{leb-true, eqb-true, not-false}
 use Rattle.loc_leaf.specs.Answers.{refuse}
 use Rattle.loc_leaf.proofs.Booleans.{both-left, both-right}
 use Rattle.loc_leaf.proofs.Refusals.{orElse-left, orElse-right, refuse-zero}
-use Rattle.loc_calls.specs.Table.{Entry, Batch}
+use Rattle.loc_calls.specs.Table.{Entry, Batch, batchOf}
 use Rattle.loc_calls.specs.Calls.{unlessRefused}
 use Rattle.loc_listing.specs.Text.{decimal, line, names, begins}
+use Rattle.loc_listing.specs.Listing.{entryLine, entryLines}
 use Rattle.loc_listing.proofs.NamesLaws.{names-long}
 use Rattle.loc_parse.specs.declared.Fields.{Fields}
 use Rattle.loc_parse.specs.declared.Line.{Line}
 use Rattle.loc_parse.specs.declared.Line.the-variants.{Whole, Broken}
 use Rattle.loc_parse.specs.Lines.{lineAt, fieldsRefusal, Parsed, parsedAs, added, ifWhole, linesFrom, empty, parsed}
 use Rattle.loc_parse.proofs.FieldLaws.{field}
-use Rattle.loc_parse.proofs.LinesBack.{entryLine, entryLines, AllFit, joined}
+use Rattle.loc_parse.proofs.LinesBack.{AllFit, joined}
 
 -- ---- a line
 
@@ -139,7 +140,7 @@ begins-drop (n ∷ ns) (x ∷ xs) e =
 pub record Printed (n : ℕ) (xs : List ℕ) (c : Batch) : Type 0 where
   pub E : List Entry
   pub text : xs ≡ names ++ entryLines n E
-  pub batch : c ≡ joined empty E
+  pub batch : c ≡ batchOf E
   pub fit : AllFit E
   pub few : length E ≤ 1024
 

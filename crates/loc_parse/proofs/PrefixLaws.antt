@@ -18,13 +18,14 @@ use Rattle.loc_number.specs.declared.Number.{Number}
 use Rattle.loc_number.specs.declared.Number.the-variants.{Known, Malformed}
 use Rattle.loc_number.specs.Decimal.{with, goesOn, digitsOn, startsAt, numberAt}
 use Rattle.loc_number.proofs.NumberLaws.{goes-within}
+use Rattle.loc_number.proofs.SpellLaws.{number-near}
 use Rattle.loc_listing.specs.Text.{names, begins}
 use Rattle.loc_listing.proofs.NamesLaws.{names-long}
 use Rattle.loc_parse.specs.declared.Fields.{Fields}
 use Rattle.loc_parse.specs.declared.Line.{Line}
 use Rattle.loc_parse.specs.declared.Line.the-variants.{Whole, Broken}
 use Rattle.loc_parse.specs.Lines.{_then_, lineAt, fieldsRefusal, Parsed, parsedAs, added, ifWhole, linesFrom, empty, parsed}
-use Rattle.loc_parse.proofs.FieldLaws.{number-near, field}
+use Rattle.loc_parse.proofs.FieldLaws.{field}
 
 -- ---- numbers
 
