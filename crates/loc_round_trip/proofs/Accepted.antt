@@ -13,14 +13,13 @@ use Rattle.loc_leaf.specs.Slot.{stridesRefusal}
 use Rattle.loc_leaf.proofs.SlotLaws.{strides-good}
 use Rattle.loc_leaf.proofs.ValueLaws.{SpansFit}
 use Rattle.loc_calls.specs.Areas.{Areas, sizes}
-use Rattle.loc_calls.specs.Table.{Entry, valueOf, bodyAfter, spanAfter, Batch, append, zipped, entries, uneven, spanless, breaks, entryRefusal, entriesRefusal, startRefusal, endPast, batchRefusal, table}
+use Rattle.loc_calls.specs.Table.{Entry, valueOf, bodyAfter, spanAfter, append, zipped, entries, batchOf, uneven, spanless, breaks, entryRefusal, entriesRefusal, startRefusal, endPast, batchRefusal, table}
 use Rattle.loc_calls.proofs.Gathered.{AllValid}
 use Rattle.loc_calls.proofs.Chains.{lens, spans, Chained, Good}
 use Rattle.loc_history.specs.Book.{Rec, recOf, records, lenSum, spanSum, bodyEnd, spanEnd, bookEnds, listEnd, bookRefusal}
 use Rattle.loc_history.specs.History.{EndsBelow, Narrow, LawfulCall}
 use Rattle.loc_history.proofs.BookLaws.{body-end, span-end}
-use Rattle.loc_parse.specs.Lines.{empty}
-use Rattle.loc_parse.proofs.LinesBack.{AllFit, joined}
+use Rattle.loc_parse.proofs.LinesBack.{AllFit}
 use Rattle.loc_round_trip.specs.RoundTrip.{Enough}
 
 -- ---- its numbers fit their widths
@@ -34,9 +33,6 @@ all-fit b s (e ∷ E) c v hb hs = (
 )
 
 -- ---- its lists
-
-abbrev pub batchOf : List Entry → Batch
-batchOf E = joined empty E
 
 zipped-own : (E : List Entry) → zipped (map (λ (e : Entry). e .start) E) (map (λ (e : Entry). e .len) E) (map (λ (e : Entry). e .spanStart) E) (map (λ (e : Entry). e .spans) E) ≡ E
 unfolding zipped

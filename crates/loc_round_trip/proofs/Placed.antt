@@ -29,7 +29,7 @@ use Rattle.loc_round_trip.specs.RoundTrip.{AllStorable}
 
 -- ---- the placed list
 
-placed-recs : (b s : ℕ) (L : List Rec) → L ≡ map recOf (placed b s L)
+pub placed-recs : (b s : ℕ) (L : List Rec) → L ≡ map recOf (placed b s L)
 unfolding placed recOf
 placed-recs b s [] = refl
 placed-recs b s (r ∷ L) = ap (λ (l : List Rec). r ∷ l) (placed-recs (b + r .len) (s + 8 * r .spans) L)
@@ -39,7 +39,7 @@ unfolding placed Chained
 placed-chained b s [] = tt
 placed-chained b s (r ∷ L) = (refl, refl, placed-chained (b + r .len) (s + 8 * r .spans) L)
 
-placed-valid : (b s : ℕ) (L : List Rec) → AllStorable L → AllValid Paired (placed b s L)
+pub placed-valid : (b s : ℕ) (L : List Rec) → AllStorable L → AllValid Paired (placed b s L)
 unfolding placed AllStorable AllValid valueOf SpansFit
 placed-valid b s [] h = tt
 placed-valid b s (r ∷ L) h = (
@@ -47,7 +47,7 @@ placed-valid b s (r ∷ L) h = (
   placed-valid (b + r .len) (s + 8 * r .spans) L (h .1),
 )
 
-placed-good : (L : List Rec) → EndsBelow Paired L → Good (placed 16 16 L)
+pub placed-good : (L : List Rec) → EndsBelow Paired L → Good (placed 16 16 L)
 unfolding EndsBelow
 placed-good L h = record {
   chained = placed-chained 16 16 L;

@@ -18,8 +18,7 @@ use Rattle.loc_calls.proofs.Opening.{Full}
 use Rattle.loc_calls.proofs.Chains.{Good}
 use Rattle.loc_calls.proofs.Reading.{none, entryWords, words-are}
 use Rattle.loc_listing.specs.Text.{line, names}
-use Rattle.loc_listing.specs.Listing.{lineFor, linesAfter, listing}
-use Rattle.loc_parse.proofs.LinesBack.{entryLine, entryLines}
+use Rattle.loc_listing.specs.Listing.{lineFor, linesAfter, listing, entryLine, entryLines}
 
 -- ---- lines of joined lists
 

@@ -1,3 +1,4 @@
 pub mod Listings
 pub mod RoundTrip
 pub mod Located
+pub mod Loads
