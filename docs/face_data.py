@@ -1,6 +1,6 @@
 #!/usr/bin/env python3
 # Writes data/ and stdout of the programs crates/face_*: the files of a face, and the listing that document 01's rules ask of them;
-# and stdin and stdout of face_import*, by document 02's. Run it in the repository's root; the gate runs the programs and needs no Python.
+# and stdin and stdout of face_import* and face_load*, by document 02's. Run it in the repository's root; the gate runs the programs and needs no Python.
 import os
 import re
 from struct import pack
@@ -118,15 +118,19 @@ def refusal(text):
     return 0, records
 
 
-def imported(name, text):
-    """A program's input, and what it prints: the listing of the index that holds the text's records, or its refusal."""
-    number, records = refusal(text)
-    lines = face([(length, spans) for _, _, length, _, _, spans in records])[3]
+def answered(name, text, number, records):
+    """A program's input, and what it prints: the listing of these records, or its refusal."""
     os.makedirs(f"crates/{name}", exist_ok=True)
     with open(f"crates/{name}/stdin", "w", newline="") as out:
         out.write(text)
     with open(f"crates/{name}/stdout", "w") as out:
-        out.write(f"refused {number}\n" if number else NAMES + "".join(lines))
+        out.write(f"refused {number}\n" if number else listing(records))
+
+
+def imported(name, text):
+    """The records that are listed are those of the index that holds the text's."""
+    number, records = refusal(text)
+    answered(name, text, number, [(length, spans) for _, _, length, _, _, spans in records])
 
 
 def listing(records):
@@ -154,3 +158,40 @@ imported("face_import_number", two.replace("2 56 2048 40 8 1", "3 56 2048 40 16 
 imported("face_import_length", two.replace("2 56 2048 40 8 1", "2 64 2048 40 16 1"))
 imported("face_import_break", two.replace("2 56", "2 64"))
 imported("face_import_blank", two.replace("1 16 40", "1 16 0"))
+
+
+# ---- loads, from a seed and a number of records on standard input
+
+
+def step(x):
+    x ^= x << 13 & 2**64 - 1
+    x ^= x >> 7
+    return x ^ x << 17 & 2**64 - 1
+
+
+def loaded(name, text):
+    """The records that are listed are drawn, strides and then spans."""
+    form = re.fullmatch("(0|[1-9][0-9]*)\n(0|[1-9][0-9]*)\n", text)
+    state, count = map(int, form.groups()) if form else (2**64, 0)
+    number = 18 if max(state, count) >= 2**64 else 25 if state == 0 else 26 if count > 1024 else 0
+    draws = []
+    for _ in range(0 if number else 2 * count):
+        state = step(state)
+        draws.append(1 + state % 300)
+    answered(name, text, number, [(8 * strides, spans) for strides, spans in zip(draws[::2], draws[1::2])])
+
+
+# seed 88172645463325252: some records, as many as a load may have, none, and one too many
+loaded("face_load", "88172645463325252\n40\n")
+loaded("face_load_full", "88172645463325252\n1024\n")
+loaded("face_load_none", "88172645463325252\n0\n")
+loaded("face_load_over", "88172645463325252\n1025\n")
+# seed 0 before the number of records, and the largest seed
+loaded("face_load_zero", "0\n1025\n")
+loaded("face_load_last", f"{2**64 - 1}\n3\n")
+
+# 18: 2^64, a zero in front, no last line feed (before seed 0), and a third line feed
+loaded("face_load_wide", f"{2**64}\n40\n")
+loaded("face_load_front", "88172645463325252\n040\n")
+loaded("face_load_unended", "0\n40")
+loaded("face_load_more", "88172645463325252\n40\n\n")
