@@ -1,6 +1,14 @@
 #!/bin/sh
-# The archive of the exported calls, and the test host over it. What is up to date is not made again.
+# The archive of the exported calls, the program face_load, and the test host, which links the one and runs the other.
+# What is up to date is not made again: archive and program if they are younger than every file of the crates.
 set -eu
 cd "$(dirname "$0")/.."
 sh compare/archive.sh
+program=target/bin/face_load
+if [ ! -f "$program" ] || [ -n "$(find crates crates.txt -newer "$program" -type f | head -n 1)" ]; then
+    rt check face_load >target/face_load.log 2>&1 || {
+        cat target/face_load.log
+        exit 1
+    }
+fi
 cargo build --release --offline --quiet -j1 --manifest-path compare/Cargo.toml

@@ -8,6 +8,7 @@ pub mod damage;
 pub mod history;
 pub mod judge;
 pub mod listing;
+pub mod load;
 pub mod named;
 pub mod pick;
 pub mod port;

@@ -59,7 +59,7 @@ fn fields(line: &[u8]) -> Option<[u64; 6]> {
 }
 
 /// A number of 64 bits: digits, and no 0 before others. Rust's own reading takes a sign and zeros too.
-fn decimal(word: &str) -> Option<u64> {
+pub fn decimal(word: &str) -> Option<u64> {
     let formed = word.bytes().all(|byte| byte.is_ascii_digit()) && (word == "0" || !word.starts_with('0'));
     word.parse().ok().filter(|_| formed)
 }

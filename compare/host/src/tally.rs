@@ -27,7 +27,7 @@ pub const WHATS: [(What, &str); 8] = [
 ];
 
 /// 0 and the numbers of the table.
-pub const NUMBERS: usize = 25;
+pub const NUMBERS: usize = 27;
 
 #[derive(Default)]
 pub struct Tally {
@@ -47,6 +47,8 @@ pub struct Tally {
     /// How often each number came from a search for an address, and how often an index and a remainder that are both not 0.
     addresses: [u64; NUMBERS],
     inner: u64,
+    /// How often each number came from an input of the load's program.
+    loads: [u64; NUMBERS],
 }
 
 /// What the calls that the original has can give.
@@ -60,6 +62,9 @@ const OF_A_LISTING: [usize; 16] = [0, 1, 6, 8, 9, 10, 11, 12, 13, 17, 18, 19, 20
 
 /// What a search for an address can give.
 const OF_AN_ADDRESS: [usize; 5] = [0, 1, 6, 17, 21];
+
+/// What an input of the load's program can give.
+const OF_A_LOAD: [usize; 4] = [0, 18, 25, 26];
 
 /// Refusals that the documents add: the port's alone, so there is nothing to compare but that they come where these say.
 fn added(kind: Kind, what: What, number: usize) -> bool {
@@ -89,6 +94,10 @@ impl Tally {
     pub fn note_address(&mut self, (number, [_, index, remainder]): Crossing) {
         self.addresses[number as usize] += 1;
         self.inner += u64::from(index != 0 && remainder != 0);
+    }
+
+    pub fn note_load(&mut self, number: u64) {
+        self.loads[number as usize] += 1;
     }
 
     /// Calls whose number is the original's.
@@ -144,6 +153,7 @@ impl Tally {
         if self.inner == 0 {
             list.push("address with an index and a remainder".into());
         }
+        list.extend(OF_A_LOAD.iter().filter(|&&n| self.loads[n] == 0).map(|n| format!("load {n}")));
         list
     }
 
@@ -178,6 +188,16 @@ impl Tally {
             self.addresses.iter().sum::<u64>(),
             each(&OF_AN_ADDRESS, &self.addresses),
             self.inner
+        )
+    }
+
+    /// The loads, which the original does not make.
+    pub fn loads(&self) -> String {
+        format!(
+            "loads: {} inputs agree with the rules ({}), and the {} loads among them with what the original stores",
+            self.loads.iter().sum::<u64>(),
+            each(&OF_A_LOAD, &self.loads),
+            self.loads[0]
         )
     }
 

@@ -1,7 +1,7 @@
 //! The tables in Markdown. Times in microseconds, ratios of the times that stand beside them.
 //! Nothing is worked out here but ratios, bytes a second, nanoseconds a record, and nanoseconds a row where there are 9,000 rows or more.
 use crate::measure::Both;
-use crate::tables::{Line, Listed, Run, Searched, Sized, Stored, LISTING_LINES, STORING_RECORDS};
+use crate::tables::{Line, Listed, Loaded, Run, Searched, Sized, Stored, LISTING_LINES, STORING_RECORDS};
 
 /// From here on what checks do beside the rows is not seen in their time by row.
 pub const MANY_ROWS: usize = 9_000;
@@ -76,6 +76,9 @@ pub fn print(run: &Run) {
     }
     if !run.listing.is_empty() {
         listing(&run.listing);
+    }
+    if !run.load.is_empty() {
+        load(&run.load);
     }
     if !run.span_at.is_empty() {
         span_at(&run.span_at);
@@ -172,6 +175,22 @@ fn listing(lines: &[Listed]) {
             ratio(line.against_lists()),
             us(t.files)
         );
+    }
+}
+
+impl Loaded {
+    pub fn against_rust(&self) -> f64 {
+        over(self.times.program, self.times.rust)
+    }
+}
+
+fn load(lines: &[Loaded]) {
+    println!("\n## A load, from the program's start to its end\n");
+    head("| records | bytes | face_load | program in Rust | face_load / Rust |");
+    for line in lines {
+        let t = &line.times;
+        let (program, rust) = (us(t.program), us(t.rust));
+        println!("| {} | {} | {program} | {rust} | {} |", line.records, t.bytes, ratio(line.against_rust()));
     }
 }
 

@@ -1,4 +1,4 @@
-//! What is measured: a reading, an append with the truncation that takes it back, an opening, a listing read back, a span address looked for.
+//! What is measured: a reading, an append with the truncation that takes it back, an opening, a listing read back, a load's program, a span address looked for.
 //! Before a reading is timed the answers of port and original are compared.
 use crate::index::{batch, Index};
 use crate::turns::{group, over_calls, over_lists, spent, Setting, Side};
@@ -6,6 +6,7 @@ use crate::wanted::Spread;
 use host::areas::{Areas, SLOTS};
 use host::judge::{Folder, Judge};
 use host::listing::{print, read};
+use host::load::{self, printed, PROGRAM};
 use host::pick::Pick;
 use host::port;
 use original::io_handle::cut_after;
@@ -154,6 +155,32 @@ pub fn listing(index: &mut Index, n: usize, rows_one_in: u64, setting: &Setting)
     });
     let [call, rust, lists, files] = best;
     Listing { bytes: text.len(), call, rust, lists, files }
+}
+
+/// Seconds of a whole run of a program that prints a load, from its start to its end, and bytes of the text: `face_load`, and the comparison's plain Rust.
+#[derive(Clone, Copy)]
+pub struct Load {
+    pub bytes: usize,
+    pub program: f64,
+    pub rust: f64,
+}
+
+/// Run by run; each has to print the text.
+pub fn load(records: u64, setting: &Setting) -> Load {
+    let input = format!("88172645463325252\n{records}\n").into_bytes();
+    let text = load::answer(&load::read(&input)).into_bytes();
+    let rust = std::env::current_exe().expect("the benchmark's own place").with_file_name("load");
+    let programs = [PROGRAM, rust.to_str().expect("a path in UTF-8")];
+    let mut best = [f64::MAX; 2];
+    setting.calls(|_| {
+        for (program, best) in programs.iter().zip(&mut best) {
+            let time = spent(|| {
+                assert!(printed(program, &input).is_ok_and(|output| output == text), "{program} prints another text")
+            });
+            *best = best.min(time);
+        }
+    });
+    Load { bytes: text.len(), program: best[0], rust: best[1] }
 }
 
 /// Seconds for a span address in the first record, a middle one and the last: the port's call, and halves over the original's readings.

@@ -1,7 +1,7 @@
 //! What the tables say, worked out from the same lines, as the document's section Result.
 //! Every figure and every "all of them" in its text is computed here.
 use crate::markdown::{head, number, over, ratio, us, MANY_ROWS};
-use crate::tables::{Line, Listed, Run, Searched, GROWTH, LISTING_LINES};
+use crate::tables::{Line, Listed, Loaded, Run, Searched, GROWTH, LISTING_LINES};
 use crate::wanted::{Spread, WORKLOADS};
 use std::cmp::Ordering;
 
@@ -57,6 +57,9 @@ pub fn print(run: &Run) {
     }
     if !run.listing.is_empty() {
         listing(&run.listing);
+    }
+    if !run.load.is_empty() {
+        load(&run.load);
     }
     if !run.span_at.is_empty() {
         span_at(&run.span_at);
@@ -302,6 +305,13 @@ fn listing(lines: &[Listed]) {
     println!(
         "it takes {} times as long as the port's append of the lists alone.",
         range(&Figures::of(lines.iter().map(Listed::against_lists)))
+    );
+}
+
+fn load(lines: &[Loaded]) {
+    println!(
+        "\n**A load** is printed in {} of the time of a plain program in Rust, both from start to end; most of that is the start of a program.",
+        range(&Figures::of(lines.iter().map(Loaded::against_rust)))
     );
 }
 

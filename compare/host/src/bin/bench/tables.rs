@@ -1,7 +1,7 @@
 //! The tables' measurements: which indexes and which calls.
 //! Every table has its own; what is in two tables was measured for each.
 use crate::index::{build, Index, DENSITIES, KINDS};
-use crate::measure::{listing, opening, reading, span_at, storing, Both, Listing, Reading, Search};
+use crate::measure::{listing, load, opening, reading, span_at, storing, Both, Listing, Load, Reading, Search};
 use crate::turns::{spent, Setting};
 use crate::wanted::{Spread, WORKLOADS};
 use host::areas::Kind;
@@ -36,6 +36,12 @@ pub struct Listed {
     pub times: Listing,
 }
 
+/// A load of so many records.
+pub struct Loaded {
+    pub records: u64,
+    pub times: Load,
+}
+
 /// Span addresses looked for in one index.
 pub struct Searched {
     pub records: u64,
@@ -58,6 +64,7 @@ pub struct Run {
     pub growth: Vec<Line>,
     pub storing: Vec<Stored>,
     pub listing: Vec<Listed>,
+    pub load: Vec<Loaded>,
     pub span_at: Vec<Searched>,
     pub size: Vec<Sized>,
     pub numbers: Vec<Line>,
@@ -136,6 +143,11 @@ pub fn listing_table(run: &mut Run, folder: &Folder, setting: &Setting) {
         let times = listing(&mut index, LISTING_LINES, one_in, setting);
         run.listing.push(Listed { density, rows: index.row_count(), times });
     }
+}
+
+/// Loads of no records, of some, and of as many as there may be.
+pub fn load_table(run: &mut Run, _: &Folder, setting: &Setting) {
+    run.load.extend([0, 40, 1024].map(|records| Loaded { records, times: load(records, setting) }));
 }
 
 /// Span addresses at the same sizes.
