@@ -55,7 +55,7 @@ done
 # no function that is called from outside asks anything of its caller
 asked=$(awk '/^[ ]*pub (extern "C" )?fn /{name=$0} /^[ ]*{/{name=""} /^[ ]*requires/{if (name != "") print FILENAME": "name}' \
     crates/loc_leaf/src/*.rt crates/loc_index/src/*.rt crates/loc_exports/src/*.rt crates/loc_listing/src/*.rt crates/loc_number/src/*.rt \
-    crates/loc_print/src/calls.rt crates/loc_print/src/listing.rt crates/loc_recovery/src/*.rt)
+    crates/loc_load/src/*.rt crates/loc_print/src/calls.rt crates/loc_print/src/listing.rt crates/loc_recovery/src/*.rt)
 [ -z "$asked" ] || wrong "a public function has a 'requires': $asked"
 
 folders=$(grep -rnE '/(work|opt|home|root|tmp)/[a-z]' --include='*.md' --include='*.rt' --include='*.antt' --include='*.sh' --include='*.edit' . |

@@ -15,7 +15,8 @@ extern "C" {
 #endif
 
 /* What a call returns. Any call gives 1; create no other; open 2 to 5; the others 6, and append 7 to 13, 17 and 22 to 24,
- * truncate 14, read 15 to 17, append_listing 18 to 20 and then append's from 8 on, span_at 17 and then 21. */
+ * truncate 14, read 15 to 17, append_listing 18 to 20 and then append's from 8 on, span_at 17 and then 21. No call gives 25
+ * or 26: the program face_load prints them, and 18 for its own input. */
 enum gurwynell_refusal {
     GURWYNELL_ACCEPTED = 0,
     GURWYNELL_AREA_TOO_SMALL = 1,          /* an area under 16 bytes */
@@ -41,7 +42,9 @@ enum gurwynell_refusal {
     GURWYNELL_ADDRESS_NOT_HELD = 21,       /* no record's span range holds the address */
     GURWYNELL_BODY_EMPTY = 22,             /* length 0 */
     GURWYNELL_BODY_NOT_AT_END = 23,        /* the batch's first body start is not where the list ends */
-    GURWYNELL_SPANS_NOT_AT_END = 24        /* the same for spans (paired) */
+    GURWYNELL_SPANS_NOT_AT_END = 24,       /* the same for spans (paired) */
+    GURWYNELL_SEED_ZERO = 25,              /* seed 0 (the program face_load) */
+    GURWYNELL_TOO_MANY_RECORDS = 26        /* more than 1,024 records (the program face_load) */
 };
 
 /* Where the words of an answer stand, and how many there are for each wanted number. All are 0 where nothing is found. */
