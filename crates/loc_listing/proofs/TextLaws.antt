@@ -119,9 +119,15 @@ module _ (ns out : List ℕ) where
   unfolding lineText
   line-none h = (rw (lt-leb 126 (length out) h) (put-nothing out 0), omega arith, omega arith)
 
-  pub line-put : (out₁ : List ℕ) (r : ℕ) → 126 ≤ length out → Put out 0 (line ns) out₁ r → r ≤ 0 + 126 → Put out 0 (lineText ns (length out)) out₁ r × (r ≤ length out) × (r ≤ 126)
+  pub line-put : (out₁ : List ℕ) (r : ℕ) → 126 ≤ length out → Put out 0 (line ns) out₁ r → r ≤ 126 → Put out 0 (lineText ns (length out)) out₁ r × (r ≤ length out) × (r ≤ 126)
   unfolding lineText
   line-put out₁ r h p l = (rw (le-leb 126 (length out) h) p, omega arith, omega arith)
+
+  -- in the part of a buffer from a place on
+  pub line-part : (at : ℕ) (ys : List ℕ) (r : ℕ) → 126 ≤ length out - at
+      → Put (take (length out - at) (drop at out)) 0 (lineText ns (length (take (length out - at) (drop at out)))) ys r → Put out at (line ns) (putMid at (length out - at) out ys) (at + r)
+  unfolding lineText
+  line-part at ys r h p = put-part out at (line ns) ys r (rw (part-long out at, le-leb 126 (length out - at) h) at p)
 
 module _ (first words n room : ℕ) where
   pub no-room : room / 126 < n → false ≡ fits first words n room

@@ -6,7 +6,7 @@ ghost use mathlib.Core.List.{[], _∷_, _++_};
 ghost use Prim.Native.Nat.{_+_, _*_, _^_, _≤_, _<_};
 ghost use mathlib.Core.Path.{_≡_};
 ghost use lib.ListN.{length};
-ghost use Rattle.loc_listing.specs.Text.{digits, decimal, line, recordLines, lineText, windowText, refusedText, fits, Put};
+ghost use Rattle.loc_listing.specs.Text.{digits, decimal, recordLines, lineText, windowText, refusedText, fits, Put};
 
 // Bytes copied to the start of a buffer. The answer is how many there are.
 fn put_bytes(from: &[u8], out: &mut [u8]) -> usize
@@ -48,27 +48,6 @@ fn put_field(out: &mut [u8], at: usize, n: u64, end: u8) -> usize
     next + 1
 }
 
-fn put_line(
-    out: &mut [u8],
-    at: usize,
-    id: u64,
-    body_start: u64,
-    body_len: u64,
-    span_start: u64,
-    span_len: u64,
-    spans: u64,
-) -> usize
-    requires { ⌜ at + 126 ≤ length (now out) ⌝ }
-    ensures { λ r. ⌜ Put (now (out .entry)) at (line (id ∷ «body_start» ∷ «body_len» ∷ «span_start» ∷ «span_len» ∷ spans ∷ [])) (now (out .exit)) r × (r ≤ at + 126) ⌝ }
-{
-    let a = put_field(out, at, id, b' ');
-    let b = put_field(out, a, body_start, b' ');
-    let c = put_field(out, b, body_len, b' ');
-    let d = put_field(out, c, span_start, b' ');
-    let e = put_field(out, d, span_len, b' ');
-    put_field(out, e, spans, b'\n')
-}
-
 // The line of one record. The answer is how many bytes it has.
 pub fn line_text(
     id: u64,
@@ -84,16 +63,12 @@ pub fn line_text(
     if out.len() < 126 {
         return 0;
     }
-    put_line(
-        out,
-        0,
-        id,
-        body_start,
-        body_len,
-        span_start,
-        span_len,
-        spans,
-    )
+    let a = put_field(out, 0, id, b' ');
+    let b = put_field(out, a, body_start, b' ');
+    let c = put_field(out, b, body_len, b' ');
+    let d = put_field(out, c, span_start, b' ');
+    let e = put_field(out, d, span_len, b' ');
+    put_field(out, e, spans, b'\n')
 }
 
 // The lines of n records from `first` on, whose answers stand in a buffer as a paired reading stores them.
@@ -105,15 +80,14 @@ fn put_lines(first: u64, answers: &[u64], n: usize, out: &mut [u8]) -> usize
     let mut i: usize = 0;
     while i < n {
         let j = 6 * i;
-        at = put_line(
-            out,
-            at,
+        at += line_text(
             first + i as u64,
             answers[j + 1],
             answers[j + 2],
             answers[j + 3],
             answers[j + 4],
             answers[j + 5],
+            &mut out[at..],
         );
         i += 1;
     }

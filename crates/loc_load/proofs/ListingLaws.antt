@@ -7,15 +7,14 @@ use mathlib.Core.List.{List, [], _∷_}
 use native.Mathlib.Numerals.{add-one}
 use native.Mathlib.Omega.{arith}
 use lib.Dec.{leb}
-use lib.ListN.{length, take, drop, length-drop}
-use lib.Seq.{length-take-le}
+use lib.ListN.{length, take, drop}
 use borrow.Author.Tests.{le-leb, lt-leb}
 use borrow.Rule.Slice.PartMut.{putMid}
 use Rattle.loc_calls.specs.Calls.{unlessRefused}
 use Rattle.loc_history.specs.History.{placed}
 use Rattle.loc_listing.specs.Text.{line, names, lineText, namesText, refusedText, Put}
 use Rattle.loc_listing.specs.Listing.{entryLine, entryLines}
-use Rattle.loc_listing.proofs.TextLaws.{put-then, put-nothing, put-part}
+use Rattle.loc_listing.proofs.TextLaws.{put-then, put-nothing, line-part}
 use Rattle.loc_load.specs.declared.Request.{Request}
 use Rattle.loc_load.specs.Xorshift.{xorshift}
 use Rattle.loc_load.specs.Load.{drawn, load, loadEntries, loadListing}
@@ -42,23 +41,17 @@ module _ (seed n : ℕ) (out₀ : List ℕ) (at₀ : ℕ) where
 
     -- one line more: by the next two draws
     module _ (a b len spanLen spans : ℕ) (first : a ≡ xorshift x) (second : b ≡ xorshift a) (is-len : len ≡ 8 * (1 + a % 300)) (is-spans : spans ≡ 1 + b % 300) (is-span-len : spanLen ≡ 8 * spans) where
-      pub one-left : i < n → 126 ≤ length out - at → at ≤ length out → (ys : List ℕ) (r : ℕ)
+      pub one-left : i < n → 126 ≤ length out - at → (ys : List ℕ) (r : ℕ)
           → Put (take (length out - at) (drop at out)) 0 (lineText ((i + 1) ∷ body ∷ len ∷ span ∷ spanLen ∷ spans ∷ []) (length (take (length out - at) (drop at out)))) ys r
           → Left (putMid at (length out - at) out ys) (at + r) b (body + len) (span + spanLen) (i + 1)
-      unfolding entryLines entryLine placed load drawn lineText
-      one-left h room inside ys r f l p g =
+      unfolding entryLines entryLine placed load drawn
+      one-left h room ys r f l p g =
           left l p
           (rw (more, ← first, ← second, ← is-len, ← is-spans, ← is-span-len)
-          (put-then (line (suc i ∷ body ∷ len ∷ span ∷ spanLen ∷ spans ∷ [])) _ (put-part out at _ ys r here) (rw add-one at g)))
+          (put-then (line (suc i ∷ body ∷ len ∷ span ∷ spanLen ∷ spans ∷ [])) _ (line-part _ out at ys r room (rw add-one at f)) (rw add-one at g)))
         where
           more : n - i ≡ suc (n - suc i)
           more = omega arith
-
-          long : length (take (length out - at) (drop at out)) ≡ length out - at
-          long = length-take-le (length out - at) (drop at out) (omega (arith, length-drop at out))
-
-          here : Put (take (length out - at) (drop at out)) 0 (line (suc i ∷ body ∷ len ∷ span ∷ spanLen ∷ spans ∷ [])) ys r
-          here = rw (long, le-leb 126 (length out - at) room, add-one i) at f
 
 -- ---- a listing
 

@@ -1,20 +1,47 @@
 -- `loc_listing::line_text` meets its contract.
+use native.Mathlib.Omega.{arith}
 use borrow.Author.Needs.{needs}
-use Rattle.loc_listing.proofs.TextLaws.{line-none, line-put}
+use Rattle.loc_listing.proofs.TextLaws.{fields-line, line-none, line-put}
 use Rattle.loc_listing.proofs.line_text.Statement.{statement}
 use Rattle.loc_listing.proofs.line_text.Tie as tie
 
 returns : tie.Need-returns
 returns c = line-none _ _ (c .if1 .taken)
 
-put-line-requires : tie.Need-put-line-requires
-put-line-requires c κs = search needs
+put-field-requires : tie.Need-put-field-requires
+put-field-requires c κs = search needs
+
+put-field-requires-2 : tie.Need-put-field-requires-2
+put-field-requires-2 c κs = search needs
+
+put-field-requires-3 : tie.Need-put-field-requires-3
+put-field-requires-3 c κs = search needs
+
+put-field-requires-4 : tie.Need-put-field-requires-4
+put-field-requires-4 c κs = search needs
+
+put-field-requires-5 : tie.Need-put-field-requires-5
+put-field-requires-5 c κs = search needs
+
+put-field-requires-6 : tie.Need-put-field-requires-6
+put-field-requires-6 c κs = search needs
 
 same-length : tie.Need-same-length
 same-length c = search needs
 
 returns-2 : tie.Need-returns-2
-returns-2 c = line-put _ _ _ _ (c .before .before .before .before .if1 .left) (c .before .before .put-line .ensures .0) (c .before .before .put-line .ensures .1)
+returns-2 c = line-put _ _ _ _ (c .before .before .before .before .before .before .before .before .before .before .before .before .before .before .before .before .before .before .before .before .before .before .before .before .if1 .left) (fields-line _ _ _ _ _ _ (c .before .before .before .before .before .before .before .before .before .before .before .before .before .before .before .before .before .before .before .before .before .before .put-field .ensures .0) (c .before .before .before .before .before .before .before .before .before .before .before .before .before .before .before .before .before .before .put-field2 .ensures .0) (c .before .before .before .before .before .before .before .before .before .before .before .before .before .before .put-field3 .ensures .0) (c .before .before .before .before .before .before .before .before .before .before .put-field4 .ensures .0) (c .before .before .before .before .before .before .put-field5 .ensures .0) (c .before .before .put-field6 .ensures .0)) (omega arith)
 
 pub line-text-spec : {M : Type 1} → statement M
-line-text-spec = tie.close (tie.spec returns put-line-requires same-length returns-2)
+line-text-spec =
+    tie.close
+    (tie.spec
+    returns
+    put-field-requires
+    put-field-requires-2
+    put-field-requires-3
+    put-field-requires-4
+    put-field-requires-5
+    put-field-requires-6
+    same-length
+    returns-2)

@@ -1,11 +1,11 @@
 -- `loc_listing::put_lines` meets its contract.
 use Prim.Native.Nat.{ℕ, _-_, _*_, _≤_}
-use mathlib.Core.Path.{_≡_, refl, subst, _∙_}
+use mathlib.Core.Path.{_≡_, refl, subst}
 use native.Mathlib.Omega.{arith}
 use lib.ListN.{length}
 use borrow.Author.Needs.{needs}
 use denote.Ref.{now}
-use Rattle.loc_listing.proofs.TextLaws.{lines-none, lines-more}
+use Rattle.loc_listing.proofs.TextLaws.{lines-none, lines-more, line-part}
 use Rattle.loc_listing.specs.Text.{recordLines, Put}
 use Rattle.loc_listing.proofs.put_lines.Statement.{statement}
 use Rattle.loc_listing.proofs.put_lines.Tie as tie
@@ -22,56 +22,68 @@ loop-holds c = (lines-none _ _ _, omega arith, omega arith, refl)
 mul-j : tie.Need-mul-j Inv-loop μ-loop
 mul-j c = search needs
 
-add-put-line : tie.Need-add-put-line Inv-loop μ-loop
-add-put-line c = search needs
+add-line-text : tie.Need-add-line-text Inv-loop μ-loop
+add-line-text c = search needs
 
-add-put-line-2 : tie.Need-add-put-line-2 Inv-loop μ-loop
-add-put-line-2 c = search needs
+add-line-text-2 : tie.Need-add-line-text-2 Inv-loop μ-loop
+add-line-text-2 c = search needs
 
-mul-put-line : tie.Need-mul-put-line Inv-loop μ-loop
-mul-put-line c = search needs
+mul-line-text : tie.Need-mul-line-text Inv-loop μ-loop
+mul-line-text c = search needs
 
-shared-slice-read-put-line : tie.Need-shared-slice-read-put-line Inv-loop μ-loop
-shared-slice-read-put-line c = search needs
+shared-slice-read-line-text : tie.Need-shared-slice-read-line-text Inv-loop μ-loop
+shared-slice-read-line-text c = search needs
 
-add-put-line-3 : tie.Need-add-put-line-3 Inv-loop μ-loop
-add-put-line-3 c = search needs
+add-line-text-3 : tie.Need-add-line-text-3 Inv-loop μ-loop
+add-line-text-3 c = search needs
 
-mul-put-line-2 : tie.Need-mul-put-line-2 Inv-loop μ-loop
-mul-put-line-2 c = search needs
+mul-line-text-2 : tie.Need-mul-line-text-2 Inv-loop μ-loop
+mul-line-text-2 c = search needs
 
-shared-slice-read-put-line-2 : tie.Need-shared-slice-read-put-line-2 Inv-loop μ-loop
-shared-slice-read-put-line-2 c = search needs
+shared-slice-read-line-text-2 : tie.Need-shared-slice-read-line-text-2 Inv-loop μ-loop
+shared-slice-read-line-text-2 c = search needs
 
-add-put-line-4 : tie.Need-add-put-line-4 Inv-loop μ-loop
-add-put-line-4 c = search needs
+add-line-text-4 : tie.Need-add-line-text-4 Inv-loop μ-loop
+add-line-text-4 c = search needs
 
-mul-put-line-3 : tie.Need-mul-put-line-3 Inv-loop μ-loop
-mul-put-line-3 c = search needs
+mul-line-text-3 : tie.Need-mul-line-text-3 Inv-loop μ-loop
+mul-line-text-3 c = search needs
 
-shared-slice-read-put-line-3 : tie.Need-shared-slice-read-put-line-3 Inv-loop μ-loop
-shared-slice-read-put-line-3 c = search needs
+shared-slice-read-line-text-3 : tie.Need-shared-slice-read-line-text-3 Inv-loop μ-loop
+shared-slice-read-line-text-3 c = search needs
 
-add-put-line-5 : tie.Need-add-put-line-5 Inv-loop μ-loop
-add-put-line-5 c = search needs
+add-line-text-5 : tie.Need-add-line-text-5 Inv-loop μ-loop
+add-line-text-5 c = search needs
 
-mul-put-line-4 : tie.Need-mul-put-line-4 Inv-loop μ-loop
-mul-put-line-4 c = search needs
+mul-line-text-4 : tie.Need-mul-line-text-4 Inv-loop μ-loop
+mul-line-text-4 c = search needs
 
-shared-slice-read-put-line-4 : tie.Need-shared-slice-read-put-line-4 Inv-loop μ-loop
-shared-slice-read-put-line-4 c = search needs
+shared-slice-read-line-text-4 : tie.Need-shared-slice-read-line-text-4 Inv-loop μ-loop
+shared-slice-read-line-text-4 c = search needs
 
-add-put-line-6 : tie.Need-add-put-line-6 Inv-loop μ-loop
-add-put-line-6 c = search needs
+add-line-text-6 : tie.Need-add-line-text-6 Inv-loop μ-loop
+add-line-text-6 c = search needs
 
-mul-put-line-5 : tie.Need-mul-put-line-5 Inv-loop μ-loop
-mul-put-line-5 c = search needs
+mul-line-text-5 : tie.Need-mul-line-text-5 Inv-loop μ-loop
+mul-line-text-5 c = search needs
 
-shared-slice-read-put-line-5 : tie.Need-shared-slice-read-put-line-5 Inv-loop μ-loop
-shared-slice-read-put-line-5 c = search needs
+shared-slice-read-line-text-5 : tie.Need-shared-slice-read-line-text-5 Inv-loop μ-loop
+shared-slice-read-line-text-5 c = search needs
 
-put-line-requires : tie.Need-put-line-requires Inv-loop μ-loop
-put-line-requires c κs = search needs
+sub-line-text : tie.Need-sub-line-text Inv-loop μ-loop
+sub-line-text c = search needs
+
+part-line-text-start : tie.Need-part-line-text-start Inv-loop μ-loop
+part-line-text-start c = search needs
+
+part-line-text-end : tie.Need-part-line-text-end Inv-loop μ-loop
+part-line-text-end c = search needs
+
+line-text-requires : tie.Need-line-text-requires Inv-loop μ-loop
+line-text-requires c κs = search needs
+
+add-at : tie.Need-add-at Inv-loop μ-loop
+add-at c = search needs
 
 add-i : tie.Need-add-i Inv-loop μ-loop
 add-i c = search needs
@@ -80,7 +92,7 @@ loop-less : tie.Need-loop-less Inv-loop μ-loop
 loop-less c = search needs
 
 loop-again : tie.Need-loop-again Inv-loop μ-loop
-loop-again c = (lines-more (c .before .before .before .before .before .before .before .before .before .before .before .before .before .args .first) (now (c .before .before .before .before .before .before .before .before .before .before .before .before .before .args .answers)) (c .before .before .before .before .before .before .before .before .before .before .loop .i) (c .before .before .before .before .before .before .before .before .before .before .loop .inv .0) (c .before .before .put-line .ensures .0), omega arith, omega arith, c .before .before .put-line .kept .0 ∙ c .before .before .before .before .before .before .before .before .before .before .loop .inv .3)
+loop-again c = (lines-more _ _ _ (c .before .before .before .before .before .before .before .before .before .before .loop .inv .0) (line-part _ _ _ _ _ (omega arith) (c .before .before .line-text .ensures .0)), omega arith, omega arith, search needs)
 
 same-length : tie.Need-same-length Inv-loop μ-loop
 same-length c = search needs
@@ -96,23 +108,27 @@ put-lines-spec =
     μ-loop
     loop-holds
     mul-j
-    add-put-line
-    add-put-line-2
-    mul-put-line
-    shared-slice-read-put-line
-    add-put-line-3
-    mul-put-line-2
-    shared-slice-read-put-line-2
-    add-put-line-4
-    mul-put-line-3
-    shared-slice-read-put-line-3
-    add-put-line-5
-    mul-put-line-4
-    shared-slice-read-put-line-4
-    add-put-line-6
-    mul-put-line-5
-    shared-slice-read-put-line-5
-    put-line-requires
+    add-line-text
+    add-line-text-2
+    mul-line-text
+    shared-slice-read-line-text
+    add-line-text-3
+    mul-line-text-2
+    shared-slice-read-line-text-2
+    add-line-text-4
+    mul-line-text-3
+    shared-slice-read-line-text-3
+    add-line-text-5
+    mul-line-text-4
+    shared-slice-read-line-text-4
+    add-line-text-6
+    mul-line-text-5
+    shared-slice-read-line-text-5
+    sub-line-text
+    part-line-text-start
+    part-line-text-end
+    line-text-requires
+    add-at
     add-i
     loop-less
     loop-again

@@ -72,7 +72,7 @@ loop-less : tie.Need-loop-less Inv-loop μ-loop
 loop-less c = search needs
 
 loop-again : tie.Need-loop-again Inv-loop μ-loop
-loop-again c = (one-left _ _ _ _ _ _ _ _ _ _ (c .before .before .before .before .before .before .before .loop .inv .0) _ _ _ _ _ (c .before .before .before .before .before .next-state .ensures) (c .before .before .before .before .next-state2 .ensures) (omega arith) (omega arith) (omega arith) (omega arith) (omega (arith, c .before .before .before .before .before .before .before .before .before .before .before .before .before .pre .1, c .before .before .before .before .before .before .before .before .before .before .names-text .ensures .2)) (omega (arith, c .before .before .before .before .before .before .before .before .before .before .before .before .before .pre .1, c .before .before .before .before .before .before .before .before .before .before .names-text .ensures .2)) _ _ (c .before .before .line-text .ensures .0), omega (arith, c .before .before .line-text .ensures .2), omega arith, omega arith, omega arith, search needs)
+loop-again c = (one-left _ _ _ _ _ _ _ _ _ _ (c .before .before .before .before .before .before .before .loop .inv .0) _ _ _ _ _ (c .before .before .before .before .before .next-state .ensures) (c .before .before .before .before .next-state2 .ensures) (omega arith) (omega arith) (omega arith) (omega arith) (omega (arith, c .before .before .before .before .before .before .before .before .before .before .before .before .before .pre .1, c .before .before .before .before .before .before .before .before .before .before .names-text .ensures .2)) _ _ (c .before .before .line-text .ensures .0), omega (arith, c .before .before .line-text .ensures .2), omega arith, omega arith, omega arith, search needs)
 
 same-length : tie.Need-same-length Inv-loop μ-loop
 same-length c = search needs
