@@ -1,5 +1,5 @@
 -- The pass over the records against what loc_calls says of a sound index: how it begins, one record more, and how it ends.
--- A record that lacks its row, a sum past 2^64 or a checkpoint that differs makes the whole index unsound.
+-- A record that lacks its row, a row that is not wanted, a sum past 2^64 or a checkpoint that differs makes the whole index unsound.
 use Prim.Native.Nat.{ℕ, zero, suc, _+_, _-_, _*_, _/_, _%_, _^_, _≤_, _<_}
 use mathlib.Core.Path.{_≡_, refl, sym, ap, _∙_, subst}
 use mathlib.Core.Logic.{_⊎_, inl, inr, ⊎-elim}
@@ -24,14 +24,15 @@ use Rattle.loc_leaf.specs.Rows.{rowValue, hasRow, rowList, lookup, slotValue, a
 use Rattle.loc_leaf.proofs.Booleans.{is?}
 use Rattle.loc_calls.specs.Areas.{Areas, areas, count}
 use Rattle.loc_calls.specs.Reading.{sumAfter, allAfter, lookupAt, has, valueAt, stridesAfter, spansAfter, windowEnd}
-use Rattle.loc_calls.specs.Audit.{bodySum, spanSum, bothEnds, checkpointSound, sound}
+use Rattle.loc_calls.specs.Audit.{bodySum, spanSum, bothEnds, checkpointSound, rowFits, rowWanted, rowsSound, sound}
+use Rattle.loc_rows.specs.declared.Row.{Row}
 use Rattle.loc_rows.specs.Reader.{rowAt, rowsFrom}
 use Rattle.loc_rows.proofs.ReaderLaws.{rows-lent}
 use Rattle.loc_audit.specs.declared.Ends.{Ends}
 use Rattle.loc_audit.specs.declared.Step.{Step}
 use Rattle.loc_audit.specs.declared.Step.the-variants.{Next, Unsound}
-use Rattle.loc_audit.specs.Pass.{nextPlace, slotSays, added, valued, byRow, recordStep, checkpointIs, checkpointHolds, tested, auditStep, Auditable}
-use Rattle.loc_audit.proofs.RowPassLaws.{Left, Turn, turn}
+use Rattle.loc_audit.specs.Pass.{nextPlace, isEnd, slotSays, added, valued, byRow, recordStep, checkpointIs, checkpointHolds, tested, auditStep, Auditable}
+use Rattle.loc_audit.proofs.RowPassLaws.{Left, ownWanted, soundFrom, Turn, turn, rows-left}
 
 -- ---- over the numbers from 1 on
 
@@ -57,13 +58,15 @@ sum-grows f m n (suc d) = let q : n + suc d ≡ suc (n + d) = omega arith in rw 
 
 -- ---- what makes an index unsound
 
--- a conjunction of three with a part that fails
-fails-second : (x y z : Bool) → y ≡ false → (x && y && z) ≡ false
-fails-second true y z e = rw e refl
-fails-second false y z e = refl
+-- a conjunction of four with a part that fails
+fails-second : (x y z t : Bool) → y ≡ false → (x && y && z && t) ≡ false
+fails-second x y z t e = rw (e, and-false x) refl
 
-fails-third : (x y z : Bool) → z ≡ false → (x && y && z) ≡ false
-fails-third x y z e = rw e (and-false (x && y))
+fails-third : (x y z t : Bool) → z ≡ false → (x && y && z && t) ≡ false
+fails-third x y z t e = rw (e, and-false (x && y)) refl
+
+fails-fourth : (x y z t : Bool) → t ≡ false → (x && y && z && t) ≡ false
+fails-fourth x y z t e = rw e (and-false (x && y && z))
 
 module _ (k : Kind) (a : Areas) where
   abbrev allHave : Bool
@@ -74,6 +77,9 @@ module _ (k : Kind) (a : Areas) where
 
   abbrev bothBelow : Bool
   bothBelow = bothEnds k (ltb (bodySum k a (count a)) (2 ^ 64)) (ltb (spanSum k a (count a)) (2 ^ 64))
+
+  abbrev allWanted : Bool
+  allWanted = rowsSound k a (rowList k (a .rows))
 
   body-grows : (n m : ℕ) → n ≤ m → bodySum k a n ≤ bodySum k a m
   unfolding bodySum stridesAfter
@@ -96,7 +102,7 @@ module _ (k : Kind) (a : Areas) where
 
     unsound-body : 2 ^ 64 ≤ bodySum k a (suc n) → sound k a ≡ false
     unfolding sound
-    unsound-body g = fails-third allHave allSound bothBelow (ends k (ltb (bodySum k a (count a)) (2 ^ 64)) (ltb (spanSum k a (count a)) (2 ^ 64)) past)
+    unsound-body g = fails-third allHave allSound bothBelow allWanted (ends k (ltb (bodySum k a (count a)) (2 ^ 64)) (ltb (spanSum k a (count a)) (2 ^ 64)) past)
       where
         past : ltb (bodySum k a (count a)) (2 ^ 64) ≡ false
         past = le-ltb (bodySum k a (count a)) (2 ^ 64) (omega (arith, body-grows (suc n) (count a) h))
@@ -107,7 +113,7 @@ module _ (k : Kind) (a : Areas) where
 
     unsound-span : k ≡ Paired → 2 ^ 64 ≤ spanSum k a (suc n) → sound k a ≡ false
     unfolding sound
-    unsound-span p g = fails-third allHave allSound bothBelow (ends k p (ltb (bodySum k a (count a)) (2 ^ 64)) (ltb (spanSum k a (count a)) (2 ^ 64)) past)
+    unsound-span p g = fails-third allHave allSound bothBelow allWanted (ends k p (ltb (bodySum k a (count a)) (2 ^ 64)) (ltb (spanSum k a (count a)) (2 ^ 64)) past)
       where
         past : ltb (spanSum k a (count a)) (2 ^ 64) ≡ false
         past = le-ltb (spanSum k a (count a)) (2 ^ 64) (omega (arith, span-grows (suc n) (count a) h))
@@ -118,7 +124,11 @@ module _ (k : Kind) (a : Areas) where
 
   unsound-checkpoint : (w : ℕ) → w < fill (checkpointWidth k) (a .checkpoints) → checkpointSound k a (suc w) ≡ false → sound k a ≡ false
   unfolding sound
-  unsound-checkpoint w h e = fails-second allHave allSound bothBelow (all-fails (checkpointSound k a) (fill (checkpointWidth k) (a .checkpoints)) w h e)
+  unsound-checkpoint w h e = fails-second allHave allSound bothBelow allWanted (all-fails (checkpointSound k a) (fill (checkpointWidth k) (a .checkpoints)) w h e)
+
+  unsound-rows : rowsSound k a (rowList k (a .rows)) ≡ false → sound k a ≡ false
+  unfolding sound
+  unsound-rows e = fails-fourth allHave allSound bothBelow allWanted e
 
 -- ---- one record's value
 
@@ -153,6 +163,7 @@ pub record Passed (k : Kind) (a : Areas) (xs : Bytes) (n : ℕ) (e : Ends) : Typ
   pub bodyLow : e .body < 2 ^ 64
   pub spanLow : e .span < 2 ^ 64
   pub left : Left k (rowList k (a .rows)) xs n (e .next)
+  pub rest : rowsSound k a (rowList k (a .rows)) ≡ soundFrom k a xs (e .next)
 
 -- a step to n records, or the index is unsound
 abbrev pub Stepped : Kind → Areas → Bytes → ℕ → Step → Type 0
@@ -171,15 +182,27 @@ pass-begins k a end g e h =
       bodyLow = omega arith;
       spanLow = omega arith;
       left = record { same = λ id l. ap (lookup k id) (sym lent); rise = ap (ascending 0) lent ∙ g .ascend };
+      rest = ap (rowsSound k a) (sym lent);
     }
   where
     lent : rowsFrom (rowWidth k) (take end (a .rows)) 16 ≡ rowList k (a .rows)
     lent = rows-lent k (a .rows) (rowWidth k) end refl e h
 
-pub pass-ends : (k : Kind) (a : Areas) (xs : Bytes) (n : ℕ) (e : Ends) → Auditable k a → n ≡ count a → Passed k a xs n e → sound k a ≡ true
+pub pass-ends : (k : Kind) (a : Areas) (xs : Bytes) (n : ℕ) (e : Ends) → Auditable k a → n ≡ count a → Passed k a xs n e → sound k a ≡ isEnd (rowAt (rowWidth k) xs (e .next))
 unfolding sound
 pass-ends k a xs n e g q w =
-    rw (g .checkpointed, ← q, w .complete, w .checked, ← w .isBody, ← w .isSpan, lt-ltb (e .body) (2 ^ 64) (w .bodyLow), lt-ltb (e .span) (2 ^ 64) (w .spanLow)) (both k)
+    rw (
+      g .checkpointed,
+      w .rest ∙ rows-left k a (rowList k (a .rows)) xs (e .next) (subst (λ (i : ℕ). Left k (rowList k (a .rows)) xs i (e .next)) q (w .left)),
+      ← q,
+      w .complete,
+      w .checked,
+      ← w .isBody,
+      ← w .isSpan,
+      lt-ltb (e .body) (2 ^ 64) (w .bodyLow),
+      lt-ltb (e .span) (2 ^ 64) (w .spanLow),
+      both k,
+    ) refl
   where
     both : (j : Kind) → bothEnds j true true ≡ true
     both Paired = refl
@@ -195,18 +218,25 @@ module _ (k : Kind) (a : Areas) (xs : Bytes) (n : ℕ) (e : Ends) (g : Auditable
   abbrev rs : List Bytes
   rs = rowList k (a .rows)
 
-  there : Turn k rs xs n (e .next) (w .left) (rowAt (rowWidth k) xs (e .next))
-  there = turn k rs xs n (e .next) (w .left)
+  abbrev slot : Bytes
+  slot = slotAt (a .slots) (suc n)
+
+  there : Turn k a rs xs n (e .next) h (w .left) (rowAt (rowWidth k) xs (e .next))
+  there = turn k a rs xs n (e .next) h (w .left)
 
   abbrev next : ℕ
   next = nextPlace (rowAt (rowWidth k) xs (e .next)) (suc n) (e .next)
 
-  -- the record's value is what loc_calls says
-  looks : recordStep k (a .slots) xs (suc n) e ≡ valued e next (lookupAt k a (suc n))
-  unfolding recordStep byRow slotSays lookupAt slotValue
-  looks = ap (λ (l : Lookup). valued e next (slotSays k (slotAt (a .slots) (suc n)) l)) (there .own)
+  -- the row at the reader's place is the one that loc_calls looks up
+  looks : recordStep k (a .slots) xs (suc n) e ≡ valued e next (slotSays k slot (lookup k (suc n) rs))
+  unfolding recordStep byRow
+  looks = ap (λ (l : Lookup). valued e next (slotSays k slot l)) (there .own)
 
-  module _ (v : Value) (found : lookupAt k a (suc n) ≡ Found v) where
+  -- with it, what is left to test of the rows
+  rests : (l : Lookup) → lookup k (suc n) rs ≡ l → rowsSound k a rs ≡ (ownWanted k slot l && soundFrom k a xs next)
+  rests l q = w .rest ∙ there .rest ∙ ap (λ (x : Lookup). ownWanted k slot x && soundFrom k a xs next) q
+
+  module _ (v : Value) (found : lookupAt k a (suc n) ≡ Found v) (on : rowsSound k a rs ≡ soundFrom k a xs next) where
     abbrev after : Ends
     after = record { body = e .body + 8 * v .strides; span = e .span + 8 * v .spans; next = next }
 
@@ -266,6 +296,7 @@ module _ (k : Kind) (a : Areas) (xs : Bytes) (n : ℕ) (e : Ends) (g : Auditable
               bodyLow = hb;
               spanLow = hs;
               left = there .left;
+              rest = on;
             })
         go (inr t) = rw t (checked-not t)
 
@@ -288,13 +319,34 @@ module _ (k : Kind) (a : Areas) (xs : Bytes) (n : ℕ) (e : Ends) (g : Auditable
         go (inl b) (inr s) = rw (b, s) (spans-past (ltb-false _ _ s))
         go (inr b) _ = rw b (unsound-body k a n h (omega (arith, ltb-false (e .body + 8 * v .strides) (2 ^ 64) b, body-is)))
 
-  pub pass-turn : Stepped k a xs (suc n) (auditStep k (a .slots) xs (a .checkpoints) (suc n) e)
-  unfolding auditStep tested valued
-  pass-turn = rw looks (go (lookupAt k a (suc n)) refl)
+  -- the record has a row: it is wanted, or the index is unsound
+  by-row : (v : Value) → lookup k (suc n) rs ≡ Found v → Stepped k a xs (suc n) (tested k (a .checkpoints) (suc n) (valued e next (slotSays k slot (Found v))))
+  unfolding valued tested slotSays lookupAt slotValue rowWanted ownWanted
+  by-row v q = go (is? (needsRow k slot)) (is? (rowFits k slot v))
     where
-      go : (l : Lookup) → lookupAt k a (suc n) ≡ l → Stepped k a xs (suc n) (tested k (a .checkpoints) (suc n) (valued e next l))
-      go (Found v) q = adds v q
-      go Missing q = unsound-row k a n h q
+      go : (needsRow k slot ≡ true) ⊎ (needsRow k slot ≡ false) → (rowFits k slot v ≡ true) ⊎ (rowFits k slot v ≡ false)
+          → Stepped k a xs (suc n) (tested k (a .checkpoints) (suc n) (valued e next (cond (needsRow k slot && rowFits k slot v) (Found v) Missing)))
+      go (inl t) (inl f) = rw (t, f) (adds v (rw (t, q) refl) (rests (Found v) q ∙ rw (t, f) refl))
+      go (inl t) (inr f) = rw (t, f) (unsound-rows k a (rests (Found v) q ∙ rw (t, f) refl))
+      go (inr t) _ = rw t (unsound-rows k a (rests (Found v) q ∙ rw t refl))
+
+  -- it has none: its slot needs none, or the index is unsound
+  by-slot : lookup k (suc n) rs ≡ Missing → Stepped k a xs (suc n) (tested k (a .checkpoints) (suc n) (valued e next (slotSays k slot Missing)))
+  unfolding valued tested slotSays lookupAt slotValue ownWanted
+  by-slot q = go (is? (needsRow k slot))
+    where
+      go : (needsRow k slot ≡ true) ⊎ (needsRow k slot ≡ false)
+          → Stepped k a xs (suc n) (tested k (a .checkpoints) (suc n) (valued e next (cond (needsRow k slot) Missing (Found (inline k slot)))))
+      go (inl t) = rw t (unsound-row k a n h (rw (t, q) refl))
+      go (inr t) = rw t (adds (inline k slot) (rw t refl) (rests Missing q))
+
+  pub pass-turn : Stepped k a xs (suc n) (auditStep k (a .slots) xs (a .checkpoints) (suc n) e)
+  unfolding auditStep
+  pass-turn = rw looks (go (lookup k (suc n) rs) refl)
+    where
+      go : (l : Lookup) → lookup k (suc n) rs ≡ l → Stepped k a xs (suc n) (tested k (a .checkpoints) (suc n) (valued e next (slotSays k slot l)))
+      go (Found v) q = by-row v q
+      go Missing q = by-slot q
 
 -- ---- the loop
 
@@ -319,6 +371,6 @@ module _ (k : Kind) (s r c : Bytes) (g : Auditable k (areas s r c)) (m : ℕ) (e
       pub passing-stops : q ≡ Unsound → false ≡ sound k (areas s r c)
       passing-stops p = sym (subst (Stepped k (areas s r c) xs (n + 1)) p stepped)
 
-    pub passing-ends : m ≤ n → true ≡ sound k (areas s r c)
+    pub passing-ends : m ≤ n → (width : ℕ) → width ≡ rowWidth k → (row : Row) → row ≡ rowAt width xs (e .next) → (b : Bool) → b ≡ isEnd row → b ≡ sound k (areas s r c)
     unfolding count
-    passing-ends h = sym (pass-ends k (areas s r c) xs n e g (omega (arith, w .inside)) (w .passed))
+    passing-ends h width ew row er b eb = rw (eb, er, ew) (sym (pass-ends k (areas s r c) xs n e g (omega (arith, w .inside)) (w .passed)))

@@ -1,28 +1,33 @@
 -- The reader along the records: at record n it stands at the first row that is numbered above n.
--- So the row of the next record is the one that stands there, or there is none. Rows ascend throughout.
+-- So the row of the next record is the one that stands there, or there is none, and a row that is left at the end is above the count. Rows ascend throughout.
 use Prim.Native.Nat.{ℕ, suc, _+_, _≤_, _<_}
 use mathlib.Core.Path.{_≡_, refl, sym, ap, _∙_, subst}
 use mathlib.Core.Logic.{_⊎_, inl, inr}
-use mathlib.Core.Bool.{true, false}
+use mathlib.Core.Bool.{Bool, true, false, _&&_, and-false}
 use mathlib.Core.List.{List, [], _∷_}
 use native.Mathlib.Omega.{arith}
 use native.Mathlib.Decide.{decLe}
 use lib.Dec.{ltb, eqb}
 use lib.ListN.{length, take, drop}
-use borrow.Author.Tests.{lt-ltb, eq-eqb, ne-eqb, ltb-true, eqb-true, eqb-false}
+use borrow.Author.Tests.{lt-ltb, lt-leb, le-leb, eq-eqb, ne-eqb, ltb-true, eqb-true, eqb-false}
 use Rattle.loc_leaf.specs.declared.Kind.{Kind}
 use Rattle.loc_leaf.specs.declared.Kind.the-variants.{Paired, Single}
 use Rattle.loc_leaf.specs.declared.Value.{Value}
+use Rattle.loc_leaf.specs.declared.delta_loc.Lookup.{Lookup}
 use Rattle.loc_leaf.specs.declared.delta_loc.Lookup.the-variants.{Found, Missing}
 use Rattle.loc_leaf.specs.Bytes.{Bytes, numberAt}
 use Rattle.loc_leaf.specs.Kind.{rowWidth}
+use Rattle.loc_leaf.specs.Slot.{slotAt}
 use Rattle.loc_leaf.specs.Rows.{rowNumber, rowValue, rowFor, hasRow, lookup, ascending}
 use Rattle.loc_leaf.proofs.Booleans.{is?, both-left, both-right}
+use Rattle.loc_calls.specs.Areas.{Areas, count}
+use Rattle.loc_calls.specs.Reading.{within}
+use Rattle.loc_calls.specs.Audit.{rowWanted, rowSound, rowsSound}
 use Rattle.loc_rows.specs.declared.Row.{Row}
 use Rattle.loc_rows.specs.declared.Row.the-variants.{End}
 use Rattle.loc_rows.specs.Reader.{fields, rowAt, rowsFrom}
 use Rattle.loc_rows.proofs.ReaderLaws.{row-none, row-whole, row-value, rows-more, rows-none}
-use Rattle.loc_audit.specs.Pass.{ownRow, nextPlace}
+use Rattle.loc_audit.specs.Pass.{ownRow, nextPlace, isEnd}
 
 -- ---- a list of rows
 
@@ -71,48 +76,72 @@ wide : (k : Kind) → 12 ≤ rowWidth k
 wide Paired = omega arith
 wide Single = omega arith
 
-module _ (k : Kind) (rs : List Bytes) (xs : Bytes) (n at : ℕ) (w : Left k rs xs n at) where
-  -- what one record more finds, and where the reader then stands
+-- whether a record's row, if it has one, is wanted by its slot
+unfoldable pub ownWanted : Kind → Bytes → Lookup → Bool
+ownWanted k s (Found v) = rowWanted k s v
+ownWanted k s Missing = true
+
+-- whether the rows from a place on are sound
+abbrev pub soundFrom : Kind → Areas → Bytes → ℕ → Bool
+soundFrom k a xs at = rowsSound k a (rowsFrom (rowWidth k) xs at)
+
+module _ (k : Kind) (a : Areas) (rs : List Bytes) (xs : Bytes) (n at : ℕ) (i : n < count a) (w : Left k rs xs n at) where
+  -- what one record more finds, where the reader then stands, and what is left to test of the rows
   pub record Turn (row : Row) : Type 0 where
     pub own : ownRow row (suc n) ≡ lookup k (suc n) rs
     pub left : Left k rs xs (suc n) (nextPlace row (suc n) at)
+    pub rest : soundFrom k a xs at ≡ (ownWanted k (slotAt (a .slots) (suc n)) (lookup k (suc n) rs) && soundFrom k a xs (nextPlace row (suc n) at))
+
+  -- without a row of its own the reader stays, and the same rows are left
+  none-own : lookup k (suc n) rs ≡ Missing → (next : ℕ) → next ≡ at
+      → soundFrom k a xs at ≡ (ownWanted k (slotAt (a .slots) (suc n)) (lookup k (suc n) rs) && soundFrom k a xs next)
+  unfolding ownWanted
+  none-own q next e = rw (q, e) refl
 
   at-end : length xs < at + rowWidth k → Turn End
   unfolding ownRow nextPlace ascending
   at-end h =
       record {
-        own = sym (w .same (suc n) (omega arith) ∙ ap (lookup k (suc n)) none ∙ lookup-nil k (suc n));
+        own = sym lacks;
         left = record { same = λ id g. w .same id (omega arith); rise = rw none refl };
+        rest = none-own lacks at refl;
       }
     where
       none : rowsFrom (rowWidth k) xs at ≡ []
       none = rows-none (rowWidth k) xs at (wide k) h
 
+      lacks : lookup k (suc n) rs ≡ Missing
+      lacks = w .same (suc n) (omega arith) ∙ ap (lookup k (suc n)) none ∙ lookup-nil k (suc n)
+
   module _ (h : at + rowWidth k ≤ length xs) where
     abbrev here : Bytes
     here = take (rowWidth k) (drop at xs)
 
-    abbrev rest : List Bytes
-    rest = rowsFrom (rowWidth k) xs (at + rowWidth k)
+    abbrev others : List Bytes
+    others = rowsFrom (rowWidth k) xs (at + rowWidth k)
 
-    more : rowsFrom (rowWidth k) xs at ≡ here ∷ rest
+    more : rowsFrom (rowWidth k) xs at ≡ here ∷ others
     more = rows-more (rowWidth k) xs at (wide k) h
 
-    rises : ascending n (here ∷ rest) ≡ true
+    rises : ascending n (here ∷ others) ≡ true
     rises = sym (ap (ascending n) more) ∙ w .rise
 
     -- the record's own row
     at-own : rowNumber here ≡ suc n → Turn (fields here (at + rowWidth k))
-    unfolding fields ownRow nextPlace
+    unfolding fields ownRow nextPlace ownWanted rowsSound rowSound within
     at-own e =
         record {
-          own = finds ∙ ap (λ (v : Value). Found v) (row-value k (drop at xs)) ∙ sym (w .same (suc n) (omega arith) ∙ ap (lookup k (suc n)) more ∙ lookup-first k (suc n) here rest e);
+          own = finds ∙ ap (λ (v : Value). Found v) (row-value k (drop at xs)) ∙ sym has-it;
           left = subst (λ (i : ℕ). Left k rs xs (suc n) i) (sym goes) (record {
-            same = λ id g. w .same id (omega arith) ∙ ap (lookup k id) more ∙ lookup-later k id here rest (λ q. omega arith);
-            rise = subst (λ (i : ℕ). ascending i rest ≡ true) e (rest-ascends n here rest rises);
+            same = λ id g. w .same id (omega arith) ∙ ap (lookup k id) more ∙ lookup-later k id here others (λ q. omega arith);
+            rise = subst (λ (i : ℕ). ascending i others ≡ true) e (rest-ascends n here others rises);
           });
+          rest = rw (more, has-it, goes, e, lt-ltb 0 (suc n) (omega arith), le-leb (suc n) (count a) i) refl;
         }
       where
+        has-it : lookup k (suc n) rs ≡ Found (rowValue k here)
+        has-it = w .same (suc n) (omega arith) ∙ ap (lookup k (suc n)) more ∙ lookup-first k (suc n) here others e
+
         finds : ownRow (fields here (at + rowWidth k)) (suc n) ≡ Found (record { strides = numberAt 4 8 here; spans = numberAt 4 12 here })
         finds = rw (eq-eqb (rowNumber here) (suc n) e) refl
 
@@ -124,15 +153,19 @@ module _ (k : Kind) (rs : List Bytes) (xs : Bytes) (n at : ℕ) (w : Left k rs x
     unfolding fields ownRow nextPlace
     at-other e =
         record {
-          own = finds ∙ sym (w .same (suc n) (omega arith) ∙ ap (lookup k (suc n)) more ∙ none-above k (suc n) (suc n) (here ∷ rest) (omega arith) rise);
+          own = finds ∙ sym lacks;
           left = subst (λ (i : ℕ). Left k rs xs (suc n) i) (sym stays) (record { same = λ id g. w .same id (omega arith); rise = ap (ascending (suc n)) more ∙ rise });
+          rest = none-own lacks _ stays;
         }
       where
         past : suc n < rowNumber here
-        past = omega (arith, first-above n here rest rises)
+        past = omega (arith, first-above n here others rises)
 
-        rise : ascending (suc n) (here ∷ rest) ≡ true
-        rise = ascends-from (suc n) here rest past (rest-ascends n here rest rises)
+        rise : ascending (suc n) (here ∷ others) ≡ true
+        rise = ascends-from (suc n) here others past (rest-ascends n here others rises)
+
+        lacks : lookup k (suc n) rs ≡ Missing
+        lacks = w .same (suc n) (omega arith) ∙ ap (lookup k (suc n)) more ∙ none-above k (suc n) (suc n) (here ∷ others) (omega arith) rise
 
         finds : ownRow (fields here (at + rowWidth k)) (suc n) ≡ Missing
         finds = rw (ne-eqb (rowNumber here) (suc n) e) refl
@@ -150,3 +183,22 @@ module _ (k : Kind) (rs : List Bytes) (xs : Bytes) (n at : ℕ) (w : Left k rs x
           by (inl t) = at-own h (eqb-true (rowNumber (here h)) (suc n) t)
           by (inr t) = at-other h (eqb-false (rowNumber (here h)) (suc n) t)
       go (no h) = rw (row-none (rowWidth k) xs at (omega arith)) (at-end (omega arith))
+
+-- ---- after the last record
+
+-- a row above the count is not sound
+above-count : (k : Kind) (a : Areas) (r : Bytes) (rs : List Bytes) → ascending (count a) (r ∷ rs) ≡ true → rowsSound k a (r ∷ rs) ≡ false
+unfolding rowsSound rowSound within
+above-count k a r rs e = rw (lt-leb (rowNumber r) (count a) (first-above (count a) r rs e), and-false) refl
+
+-- so the rows that are left are sound where there are none
+pub rows-left : (k : Kind) (a : Areas) (rs : List Bytes) (xs : Bytes) (at : ℕ) → Left k rs xs (count a) at → soundFrom k a xs at ≡ isEnd (rowAt (rowWidth k) xs at)
+unfolding rowsSound isEnd fields
+rows-left k a rs xs at w = go (decLe (at + rowWidth k) (length xs))
+  where
+    go : Dec (at + rowWidth k ≤ length xs) → soundFrom k a xs at ≡ isEnd (rowAt (rowWidth k) xs at)
+    go (yes h) = ap (rowsSound k a) more ∙ above-count k a _ _ (sym (ap (ascending (count a)) more) ∙ w .rise) ∙ sym (ap isEnd (row-whole (rowWidth k) xs at h))
+      where
+        more : rowsFrom (rowWidth k) xs at ≡ take (rowWidth k) (drop at xs) ∷ rowsFrom (rowWidth k) xs (at + rowWidth k)
+        more = rows-more (rowWidth k) xs at (wide k) h
+    go (no h) = ap (rowsSound k a) (rows-none (rowWidth k) xs at (wide k) (omega arith)) ∙ sym (ap isEnd (row-none (rowWidth k) xs at (omega arith)))

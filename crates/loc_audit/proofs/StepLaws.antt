@@ -6,7 +6,7 @@ use mathlib.Core.Bool.{Bool, true, false}
 use mathlib.Core.List.{[], _∷_}
 use native.Mathlib.Omega.{arith}
 use native.Mathlib.Decide.{decLe}
-use lib.Dec.{eqb}
+use lib.Dec.{leb, eqb}
 use lib.ListN.{take, drop}
 use lib.Seq.{drop-drop}
 use borrow.Author.Tests.{lt-ltb, le-ltb, eq-eqb, ne-eqb}
@@ -20,6 +20,7 @@ use Rattle.loc_leaf.specs.Kind.{rowWidth, checkpointWidth}
 use Rattle.loc_leaf.specs.Slot.{needsRow, inline, slotAt}
 use Rattle.loc_leaf.proofs.RowLaws.{field-in}
 use Rattle.loc_calls.specs.Reading.{checkpointAt}
+use Rattle.loc_calls.specs.Audit.{byteFits, rowFits, rowWanted}
 use Rattle.loc_rows.specs.declared.Row.{Row}
 use Rattle.loc_rows.specs.declared.Row.the-variants.{At, End}
 use Rattle.loc_rows.specs.Reader.{rowAt}
@@ -28,7 +29,7 @@ use Rattle.loc_audit.specs.declared.Sum.{Sum}
 use Rattle.loc_audit.specs.declared.Sum.the-variants.{Below, Past}
 use Rattle.loc_audit.specs.declared.Step.{Step}
 use Rattle.loc_audit.specs.declared.Step.the-variants.{Next, Unsound}
-use Rattle.loc_audit.specs.Pass.{ownRow, nextPlace, slotSays, endAfter, added, valued, byRow, recordStep, checkpointIs, checkpointHolds, tested, auditStep}
+use Rattle.loc_audit.specs.Pass.{ownRow, nextPlace, isEnd, slotSays, endAfter, added, valued, byRow, recordStep, checkpointIs, checkpointHolds, tested, auditStep}
 
 -- ---- the row at the reader's place
 
@@ -58,6 +59,14 @@ module _ (row : Row) (id : ℕ) where
   unfolding nextPlace
   next-end at e = rw e refl
 
+pub end-not : (row : Row) (n s p next : ℕ) → row ≡ At n s p next → false ≡ isEnd row
+unfolding isEnd
+end-not row n s p next e = rw e refl
+
+pub end-is : (row : Row) → row ≡ End → true ≡ isEnd row
+unfolding isEnd
+end-is row e = rw e refl
+
 -- ---- the slot
 
 -- it is looked at by its two bytes
@@ -71,18 +80,67 @@ unfolding inline
 inline-bytes Paired s = refl
 inline-bytes Single s = refl
 
-module _ (k : Kind) (xs : Bytes) (id : ℕ) (own : Lookup) (s : Bytes) (es : s ≡ byte 0 (slotAt xs id) ∷ byte 1 (slotAt xs id) ∷ [])
-    (b : Bool) (eb : b ≡ needsRow k (byte 0 s ∷ byte 1 s ∷ [])) where
-  needs : b ≡ needsRow k (slotAt xs id)
-  needs = eb ∙ rw es (needs-bytes k (slotAt xs id))
+fits-bytes : (k : Kind) (s : Bytes) (v : Value) → rowFits k (byte 0 s ∷ byte 1 s ∷ []) v ≡ rowFits k s v
+unfolding rowFits
+fits-bytes Paired s v = refl
+fits-bytes Single s v = refl
 
-  pub says-row : b ≡ true → own ≡ slotSays k (slotAt xs id) own
-  unfolding slotSays
-  says-row h = rw (← needs, h) refl
+-- whether a row fits it, and whether it is wanted
+pub fits-zero : (b v : ℕ) → b ≡ 0 → leb 256 v ≡ byteFits b v
+fits-zero b v h = rw (eq-eqb b 0 h) refl
 
-  pub says-inline : b ≡ false → (v : Value) → v ≡ inline k (byte 0 s ∷ byte 1 s ∷ []) → Found v ≡ slotSays k (slotAt xs id) own
-  unfolding slotSays
-  says-inline h v ev = rw (← needs, h, ev, es, inline-bytes k (slotAt xs id)) refl
+pub fits-same : (b v : ℕ) → (b ≡ 0 → ⊥) → eqb b v ≡ byteFits b v
+fits-same b v h = rw (ne-eqb b 0 h) refl
+
+module _ (k : Kind) (x y : ℕ) (v : Value) where
+  module _ (e : k ≡ Paired) (f : Bool) (ef : f ≡ byteFits x (v .strides)) where
+    pub fits-second : f ≡ true → (g : Bool) → g ≡ byteFits y (v .spans) → g ≡ rowFits k (x ∷ y ∷ []) v
+    unfolding rowFits
+    fits-second h g eg = rw (e, ← ef, h, eg) refl
+
+    pub fits-first-not : f ≡ false → false ≡ rowFits k (x ∷ y ∷ []) v
+    unfolding rowFits
+    fits-first-not h = rw (e, ← ef, h) refl
+
+  pub fits-single : k ≡ Single → leb 65536 (v .strides) ≡ rowFits k (x ∷ y ∷ []) v
+  unfolding rowFits
+  fits-single e = rw e refl
+
+  module _ (b : Bool) (eb : b ≡ needsRow k (x ∷ y ∷ [])) where
+    pub wanted-fits : b ≡ true → (f : Bool) → f ≡ rowFits k (x ∷ y ∷ []) v → f ≡ rowWanted k (x ∷ y ∷ []) v
+    unfolding rowWanted
+    wanted-fits h f ef = rw (← eb, h) ef
+
+    pub wanted-not : b ≡ false → false ≡ rowWanted k (x ∷ y ∷ []) v
+    unfolding rowWanted
+    wanted-not h = rw (← eb, h) refl
+
+-- what it says, with its row or without
+module _ (k : Kind) (xs : Bytes) (id : ℕ) (own : Lookup) (s : Bytes) (es : s ≡ byte 0 (slotAt xs id) ∷ byte 1 (slotAt xs id) ∷ []) (b : Bool) where
+  module _ (v : Value) (h : own ≡ Found v) (eb : b ≡ rowWanted k (byte 0 s ∷ byte 1 s ∷ []) v) where
+    wants : b ≡ rowWanted k (slotAt xs id) v
+    unfolding rowWanted
+    wants = eb ∙ rw (es, needs-bytes k (slotAt xs id), fits-bytes k (slotAt xs id) v) refl
+
+    pub says-row : b ≡ true → Found v ≡ slotSays k (slotAt xs id) own
+    unfolding slotSays
+    says-row t = rw (h, ← wants, t) refl
+
+    pub says-unwanted : b ≡ false → Missing ≡ slotSays k (slotAt xs id) own
+    unfolding slotSays
+    says-unwanted t = rw (h, ← wants, t) refl
+
+  module _ (h : own ≡ Missing) (eb : b ≡ needsRow k (byte 0 s ∷ byte 1 s ∷ [])) where
+    needs : b ≡ needsRow k (slotAt xs id)
+    needs = eb ∙ rw es (needs-bytes k (slotAt xs id))
+
+    pub says-lacking : b ≡ true → Missing ≡ slotSays k (slotAt xs id) own
+    unfolding slotSays
+    says-lacking t = rw (h, ← needs, t) refl
+
+    pub says-inline : b ≡ false → (v : Value) → v ≡ inline k (byte 0 s ∷ byte 1 s ∷ []) → Found v ≡ slotSays k (slotAt xs id) own
+    unfolding slotSays
+    says-inline t v ev = rw (h, ← needs, t, ev, es, inline-bytes k (slotAt xs id)) refl
 
 -- ---- the ends
 

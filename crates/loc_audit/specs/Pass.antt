@@ -2,7 +2,7 @@
 -- Of an inner crate: proofs/PassLaws ties a pass over all records to what loc_calls says of a sound index.
 use Prim.Native.Nat.{ℕ, _+_, _*_, _/_, _%_, _^_}
 use mathlib.Core.Path.{_≡_}
-use mathlib.Core.Bool.{Bool, true, cond, not, _&&_, _||_}
+use mathlib.Core.Bool.{Bool, true, false, cond, not, _&&_, _||_}
 use lib.Dec.{ltb, eqb}
 use Rattle.loc_leaf.specs.declared.Kind.{Kind}
 use Rattle.loc_leaf.specs.declared.Value.{Value}
@@ -15,7 +15,7 @@ use Rattle.loc_leaf.specs.Slot.{needsRow, inline, slotAt}
 use Rattle.loc_leaf.specs.Rows.{rowList, ascending}
 use Rattle.loc_calls.specs.Areas.{Areas, count}
 use Rattle.loc_calls.specs.Reading.{checkpointAt}
-use Rattle.loc_calls.specs.Audit.{bothEnds}
+use Rattle.loc_calls.specs.Audit.{bothEnds, rowWanted}
 use Rattle.loc_rows.specs.declared.Row.{Row}
 use Rattle.loc_rows.specs.declared.Row.the-variants.{At, End}
 use Rattle.loc_rows.specs.Reader.{rowAt}
@@ -35,9 +35,15 @@ unfoldable pub nextPlace : Row → ℕ → ℕ → ℕ
 nextPlace (At n s p next) id at = cond (eqb n id) next at
 nextPlace End id at = at
 
--- if a slot needs a row, both values come from the row
+-- all rows are passed
+unfoldable pub isEnd : Row → Bool
+isEnd (At n s p next) = false
+isEnd End = true
+
+-- a row that is wanted says both values, and a slot that needs none says its own: nothing where a row is not wanted, or lacking
 unfoldable pub slotSays : Kind → Bytes → Lookup → Lookup
-slotSays k s own = cond (needsRow k s) own (Found (inline k s))
+slotSays k s (Found v) = cond (rowWanted k s v) (Found v) Missing
+slotSays k s Missing = cond (needsRow k s) Missing (Found (inline k s))
 
 -- a plain sum, where it stays below 2^64
 unfoldable pub endAfter : ℕ → ℕ → Sum
@@ -50,7 +56,7 @@ added e v next =
     (Next (record { body = e .body + 8 * v .strides; span = e .span + 8 * v .spans; next = next }))
     Unsound
 
--- a record that lacks its row makes the index unsound
+-- a record of which slot and row say nothing makes the index unsound
 unfoldable pub valued : Ends → ℕ → Lookup → Step
 valued e next (Found v) = added e v next
 valued e next Missing = Unsound

@@ -8,10 +8,13 @@ ghost use Rattle.loc_audit.specs.Pass.{Auditable};
 use crate::Ends;
 use crate::Step;
 use crate::pass::audit_step;
+use crate::pass::is_end;
 use loc_leaf::Answer;
 use loc_leaf::Kind;
+use loc_leaf::delta_loc::row_width;
 use loc_leaf::file::FILE_HEADER_LEN;
 use loc_leaf::file::logical_len;
+use loc_rows::step;
 use loc_store::check::call_refusal;
 use loc_store::plan::piece_count;
 
@@ -31,8 +34,7 @@ fn areas_sound(kind: Kind, slots: &[u8], rows: &[u8], checkpoints: &[u8]) -> boo
     let mut n: u64 = 0;
     while n < count {
         n += 1;
-        let step = audit_step(kind, slots, published, checkpoints, n, e);
-        match step {
+        match audit_step(kind, slots, published, checkpoints, n, e) {
             Step::Next(after) => {
                 e = after;
             }
@@ -41,7 +43,7 @@ fn areas_sound(kind: Kind, slots: &[u8], rows: &[u8], checkpoints: &[u8]) -> boo
             }
         }
     }
-    true
+    is_end(step(published, e.next, row_width(kind)))
 }
 
 pub fn audit_areas(kind: Kind, slots: &[u8], rows: &[u8], checkpoints: &[u8]) -> Answer

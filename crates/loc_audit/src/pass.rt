@@ -1,9 +1,11 @@
 // One record of the audit's pass: its row, its value, the ends after it, and its checkpoint.
 // The reader is carried along by its place, which is that of the first row numbered above the record before.
 ghost use mathlib.Core.Path.{_≡_};
+ghost use mathlib.Core.List.{[], _∷_};
 ghost use Prim.Native.Nat.{_^_, _<_};
 ghost use Rattle.loc_leaf.specs.Slot.{slotAt};
-ghost use Rattle.loc_audit.specs.Pass.{ownRow, nextPlace, slotSays, endAfter, added, recordStep, checkpointIs, checkpointHolds, auditStep};
+ghost use Rattle.loc_calls.specs.Audit.{byteFits, rowFits, rowWanted};
+ghost use Rattle.loc_audit.specs.Pass.{ownRow, nextPlace, isEnd, slotSays, endAfter, added, recordStep, checkpointIs, checkpointHolds, auditStep};
 use crate::Ends;
 use crate::Step;
 use crate::Sum;
@@ -60,17 +62,77 @@ fn next_place(row: Row, id: u64, at: usize) -> usize
     }
 }
 
-// What slot and row say of record id, where this is what its row says.
+// Whether no row stands at the reader's place: all are passed.
+pub fn is_end(row: Row) -> bool
+    ensures { λ r. ⌜ r ≡ isEnd row ⌝ }
+{
+    match row {
+        Row::At {
+            number: _,
+            strides: _,
+            spans: _,
+            next: _,
+        } => false,
+        Row::End => true,
+    }
+}
+
+// Whether a slot byte fits its value in the row: 0 with 256 or more, or the value itself.
+fn byte_fits(b: u8, v: u32) -> bool
+    ensures { λ r. ⌜ r ≡ byteFits b v ⌝ }
+{
+    if b == 0 {
+        return 256 <= v;
+    }
+    b as u32 == v
+}
+
+// Whether a slot that needs a row fits what the row says.
+fn row_fits(kind: Kind, low: u8, high: u8, v: Value) -> bool
+    ensures { λ r. ⌜ r ≡ rowFits kind (low ∷ high ∷ []) v ⌝ }
+{
+    match kind {
+        Kind::Paired => {
+            if byte_fits(low, v.strides) {
+                return byte_fits(high, v.spans);
+            }
+            false
+        }
+        Kind::Single => 65536 <= v.strides,
+    }
+}
+
+// Whether a slot needs a row, and this one.
+fn row_wanted(kind: Kind, low: u8, high: u8, v: Value) -> bool
+    ensures { λ r. ⌜ r ≡ rowWanted kind (low ∷ high ∷ []) v ⌝ }
+{
+    if needs_row(kind, low, high) {
+        return row_fits(kind, low, high, v);
+    }
+    false
+}
+
+// What slot and row say of record id, where this is what its row says: nothing where a row is not wanted, or lacking.
 fn slot_says(kind: Kind, slots: &[u8], id: u64, own: Lookup) -> Lookup
     ensures { λ r. ⌜ r ≡ slotSays kind (slotAt (now (slots .entry)) id) own ⌝ }
 {
     let slot = slot_at(slots, id);
     let low = slot[0];
     let high = slot[1];
-    if needs_row(kind, low, high) {
-        return own;
+    match own {
+        Lookup::Found(v) => {
+            if row_wanted(kind, low, high, v) {
+                return Lookup::Found(v);
+            }
+            Lookup::Missing
+        }
+        Lookup::Missing => {
+            if needs_row(kind, low, high) {
+                return Lookup::Missing;
+            }
+            Lookup::Found(inline_value(kind, low, high))
+        }
     }
-    Lookup::Found(inline_value(kind, low, high))
 }
 
 // An end after so many units of 8 bytes; a sum that would pass 2^64 is not made.

@@ -7,9 +7,11 @@ use mathlib.Core.List.{List, [], _∷_, _++_, map, flatten}
 use lib.ListN.{replicate}
 use Rattle.loc_leaf.specs.declared.Kind.{Kind}
 use Rattle.loc_leaf.specs.declared.Kind.the-variants.{Paired, Single}
+use Rattle.loc_leaf.specs.declared.Answer.{Answer}
 use Rattle.loc_leaf.specs.Bytes.{Bytes, number, bytes, numberAt, store}
 use Rattle.loc_leaf.specs.Answers.{answer}
 use Rattle.loc_leaf.specs.Area.{counted, storeLength, storePast, pieces, fill, published}
+use Rattle.loc_leaf.specs.Kind.{rowWidth}
 use Rattle.loc_leaf.specs.Slot.{stridesRefusal, slot, needsRow, inline, slotAt, checkpointRule}
 use Rattle.loc_leaf.specs.Rows.{row, rowNumber, rowValue, rowList, ascending, lastNumber, rowsUpTo, rowFor, hasRow, lookup, slotValue, valueIn}
 use Rattle.loc_leaf.specs.Cut.{matches, cuts, cutFor}
@@ -18,7 +20,7 @@ use Rattle.loc_calls.specs.Areas.{Three, each, Areas, sizes, count}
 use Rattle.loc_calls.specs.Table.{valueOf, bodyAfter, spanAfter, Call, opening, append, truncate, read, zipped, entries, uneven, spanless, breaks, entryRefusal, entriesRefusal, startRefusal, endPast, batchRefusal, table}
 use Rattle.loc_calls.specs.Stores.{step, run, differing, truncatePlaces, nextRow, holdsNext, cutRule, ruledCount, ruled, openPlaces, ragged, openRefusal, stores, anyStores, settled, checkpoint, gather, rowOf, checkpointOf, staged, newEnd, newEnds, appendPlaces}
 use Rattle.loc_calls.specs.Reading.{sumAfter, allAfter, firstAfter, lookupAt, has, valueAt, stridesAfter, spansAfter, checkpointAt, windowEnd, lookedAt, within, rowMissing, anyMissing, words, wordsFor, answered, found, bodyRead, spanRead, endRead}
-use Rattle.loc_calls.specs.Audit.{bodySum, spanSum, checkpointSound, sound}
+use Rattle.loc_calls.specs.Audit.{bodySum, spanSum, checkpointSound, rowFits, rowWanted, rowSound, rowsSound, sound}
 use Rattle.loc_calls.specs.Calls.{unlessRefused, tooSmall, wholeRefusal, unread, isOpening, refusal, places, placeCount, value, lent, buffer, areasAfter, call, createPlaces, create, audit}
 use Rattle.loc_calls.specs.SpanAt.{holds, refusedBy, crossing, spanAmong, spanAt}
 
@@ -75,12 +77,16 @@ lengths a = each counted a
 abbrev row300 : ℕ → Bytes
 row300 n = n ∷ 0 ∷ 0 ∷ 0 ∷ 0 ∷ 0 ∷ 0 ∷ 0 ∷ 44 ∷ 1 ∷ 0 ∷ 0 ∷ 5 ∷ 0 ∷ 0 ∷ 0 ∷ []
 
--- one record and the row (1, 300, 5) behind the published rows; the slot (44, 0) with that row
+-- one record and the row (1, 300, 5) behind the published rows
 abbrev behind : ℕ → ℕ → Areas
 behind x y = three (area 18 (x ∷ y ∷ [])) (area 16 (row300 1)) (area 16 [])
 
-abbrev mixed : Areas
-mixed = three (area 18 (44 ∷ 0 ∷ [])) (area 32 (row300 1)) (area 16 [])
+-- one record of slot (x, y) with a published row of these values
+abbrev withRow : Kind → ℕ → ℕ → ℕ → ℕ → Areas
+withRow k x y s c = three (area 18 (x ∷ y ∷ [])) (area (16 + rowWidth k) (row k 1 (record { strides = s; spans = c }))) (area 16 [])
+
+abbrev auditOf : Kind → ℕ → ℕ → ℕ → ℕ → Answer
+auditOf k x y s c = (audit k (withRow k x y s c)) .answer
 
 -- a published row 7 above the count, and behind it the row of record 1
 abbrev surplus : ℕ → Areas
@@ -213,15 +219,34 @@ pub record Computed : Type 0 where
   reads : call Paired 0 (read (2 ∷ 0 ∷ 1 ∷ 3 ∷ []) (replicate 26 9)) full
       ≡ record { answer = record { number = 0; value = 2 }; buffer = 1 ∷ 56 ∷ 2048 ∷ 40 ∷ 8 ∷ 1 ∷ 0 ∷ 0 ∷ 0 ∷ 0 ∷ 0 ∷ 0 ∷ 1 ∷ 16 ∷ 40 ∷ 16 ∷ 24 ∷ 3 ∷ 0 ∷ 0 ∷ 0 ∷ 0 ∷ 0 ∷ 0 ∷ 9 ∷ 9 ∷ []; areas = full }
   -- both values of a mixed slot come from its row
-  believes : (call Paired 0 (read (1 ∷ []) (replicate 6 9)) mixed) .buffer ≡ 1 ∷ 16 ∷ 2400 ∷ 16 ∷ 40 ∷ 5 ∷ []
+  believes : (call Paired 0 (read (1 ∷ []) (replicate 6 9)) (withRow Paired 44 0 300 5)) .buffer ≡ 1 ∷ 16 ∷ 2400 ∷ 16 ∷ 40 ∷ 5 ∷ []
   -- a paired reading does not look at slots after the last wanted number, a single one at the whole window
   looks-before : (call Paired 0 (read (1 ∷ []) (replicate 6 9)) rowless) .answer ≡ record { number = 0; value = 1 }
   looks-around : (call Single 0 (read (1 ∷ []) (replicate 3 9)) (three (area 20 (5 ∷ 3 ∷ 0 ∷ 0 ∷ [])) (area 16 []) (area 16 []))) .answer ≡ record { number = 17; value = 0 }
   -- over a window's edge, from the checkpoint on
   reads-on : (call Paired 0 (read (1026 ∷ 1025 ∷ []) (replicate 12 9)) wide) .buffer ≡ 1 ∷ 41016 ∷ 40 ∷ 41016 ∷ 40 ∷ 5 ∷ 1 ∷ 40976 ∷ 40 ∷ 40976 ∷ 40 ∷ 5 ∷ []
   -- sound, and not: a row is lacking
-  audits : (audit Paired full) .answer ≡ record { number = 0; value = 1 }
-  audits-not : (audit Paired rowless) .answer ≡ record { number = 0; value = 0 }
+  audits : (audit Paired full) .answer ≡ answer 0 1
+  audits-not : (audit Paired rowless) .answer ≡ answer 0 0
+  -- a row of an inline slot, be it of the slot's own values
+  inline-row : auditOf Paired 40 1 300 1 ≡ answer 0 0
+  inline-own : auditOf Paired 40 1 40 1 ≡ answer 0 0
+  -- one zero byte: the other byte is the row's value, and the zero byte's value is 256 or more
+  mixed-other : auditOf Paired 44 0 300 5 ≡ answer 0 0
+  mixed-own : auditOf Paired 44 0 44 300 ≡ answer 0 1
+  mixed-low : auditOf Paired 44 0 44 255 ≡ answer 0 0
+  mixed-first : auditOf Paired 0 5 300 5 ≡ answer 0 1
+  mixed-first-low : auditOf Paired 0 5 200 5 ≡ answer 0 0
+  -- two zero bytes: both values are 256 or more
+  zeros : auditOf Paired 0 0 0 0 ≡ answer 0 0
+  zeros-one : auditOf Paired 0 0 256 255 ≡ answer 0 0
+  zeros-both : auditOf Paired 0 0 256 256 ≡ answer 0 1
+  -- single, on either side of 65,536; a slot with one zero byte needs no row
+  single-low : auditOf Single 0 0 65535 0 ≡ answer 0 0
+  single-own : auditOf Single 0 0 65536 0 ≡ answer 0 1
+  single-inline : auditOf Single 0 1 65536 0 ≡ answer 0 0
+  -- a row above the count cannot be published in a settled index
+  above-count : (audit Paired (surplus 32)) .answer ≡ answer 6 0
   -- an address: the first of all, the last of record 1, the first of record 2; 21 before and behind all ranges
   locates-first : spanAt full 16 ≡ located 1 0 0
   locates-last : spanAt full 39 ≡ located 1 2 7
@@ -239,7 +264,7 @@ pub record Computed : Type 0 where
   locates-plain : crossing (wordsFor Paired high) (2 ^ 64 - 1) 1025 ≡ located 1025 1 0
 
 pub computed : Computed
-unfolding number bytes numberAt store answer counted storeLength storePast pieces fill published stridesRefusal slot needsRow inline slotAt checkpointRule row rowNumber rowValue rowList ascending lastNumber rowsUpTo rowFor hasRow lookup slotValue matches cuts cutFor sizes count valueOf bodyAfter spanAfter zipped entries uneven spanless breaks entryRefusal entriesRefusal startRefusal endPast batchRefusal table step run differing truncatePlaces nextRow holdsNext cutRule ruledCount ruled openPlaces ragged openRefusal stores anyStores settled checkpoint gather rowOf checkpointOf staged newEnd newEnds appendPlaces sumAfter allAfter lookupAt has valueIn valueAt stridesAfter spansAfter checkpointAt windowEnd lookedAt within rowMissing anyMissing words wordsFor answered found bodyRead spanRead endRead bodySum spanSum checkpointSound sound unlessRefused tooSmall unread isOpening refusal places value lent buffer areasAfter call createPlaces create audit flatten firstAfter wholeRefusal holds crossing spanAmong spanAt
+unfolding number bytes numberAt store answer counted storeLength storePast pieces fill published stridesRefusal slot needsRow inline slotAt checkpointRule row rowNumber rowValue rowList ascending lastNumber rowsUpTo rowFor hasRow lookup slotValue matches cuts cutFor sizes count valueOf bodyAfter spanAfter zipped entries uneven spanless breaks entryRefusal entriesRefusal startRefusal endPast batchRefusal table step run differing truncatePlaces nextRow holdsNext cutRule ruledCount ruled openPlaces ragged openRefusal stores anyStores settled checkpoint gather rowOf checkpointOf staged newEnd newEnds appendPlaces sumAfter allAfter lookupAt has valueIn valueAt stridesAfter spansAfter checkpointAt windowEnd lookedAt within rowMissing anyMissing words wordsFor answered found bodyRead spanRead endRead bodySum spanSum checkpointSound rowFits rowWanted rowSound rowsSound sound unlessRefused tooSmall unread isOpening refusal places value lent buffer areasAfter call createPlaces create audit flatten firstAfter wholeRefusal holds crossing spanAmong spanAt
 computed = record {
   refusals = refl;
   ordered = refl;
@@ -270,6 +295,20 @@ computed = record {
   reads-on = refl;
   audits = refl;
   audits-not = refl;
+  inline-row = refl;
+  inline-own = refl;
+  mixed-other = refl;
+  mixed-own = refl;
+  mixed-low = refl;
+  mixed-first = refl;
+  mixed-first-low = refl;
+  zeros = refl;
+  zeros-one = refl;
+  zeros-both = refl;
+  single-low = refl;
+  single-own = refl;
+  single-inline = refl;
+  above-count = refl;
   locates-first = refl;
   locates-last = refl;
   locates-next = refl;

@@ -4,7 +4,6 @@ use mathlib.Core.Path.{sym}
 use native.Mathlib.Omega.{arith}
 use lib.Seq.{length-take-le}
 use borrow.Author.Needs.{needs}
-use denote.Ref.{now}
 use Rattle.loc_audit.proofs.PassLaws.{Passing, passing-begins, passing-next, passing-stops, passing-ends}
 use Rattle.loc_audit.proofs.audit.areas_sound.Statement.{statement}
 use Rattle.loc_audit.proofs.audit.areas_sound.Tie as tie
@@ -25,7 +24,7 @@ slice-aggregate-published : tie.Need-slice-aggregate-published Inv-loop μ-loop
 slice-aggregate-published c = sym (length-take-le _ _ (omega arith))
 
 loop-holds : tie.Need-loop-holds Inv-loop μ-loop
-loop-holds c = passing-begins (c .before .before .before .before .before .before .args .kind) (now (c .before .before .before .before .before .before .args .slots)) (now (c .before .before .before .before .before .before .args .rows)) (now (c .before .before .before .before .before .before .args .checkpoints)) (c .before .before .before .before .before .before .pre) _ (c .before .before .piece-count .ensures .0) _ (c .before .logical-len .ensures .0) (c .before .logical-len .ensures .1)
+loop-holds c = passing-begins _ _ _ _ (c .before .before .before .before .before .before .pre) _ (c .before .before .piece-count .ensures .0) _ (c .before .logical-len .ensures .0) (c .before .logical-len .ensures .1)
 
 add-n : tie.Need-add-n Inv-loop μ-loop
 add-n c = search needs
@@ -33,23 +32,32 @@ add-n c = search needs
 audit-step-requires : tie.Need-audit-step-requires Inv-loop μ-loop
 audit-step-requires c κs = search needs
 
-enum-known-step : tie.Need-enum-known-step Inv-loop μ-loop
-enum-known-step c = search needs
+enum-known-after : tie.Need-enum-known-after Inv-loop μ-loop
+enum-known-after c = search needs
 
 loop-less : tie.Need-loop-less Inv-loop μ-loop
 loop-less c = search needs
 
 loop-again : tie.Need-loop-again Inv-loop μ-loop
-loop-again c = passing-next (c .before .before .before .before .before .before .before .before .before .before .before .before .args .kind) (now (c .before .before .before .before .before .before .before .before .before .before .before .before .args .slots)) (now (c .before .before .before .before .before .before .before .before .before .before .before .before .args .rows)) (now (c .before .before .before .before .before .before .before .before .before .before .before .before .args .checkpoints)) (c .before .before .before .before .before .before .before .before .before .before .before .before .pre) _ (c .before .before .before .before .before .before .before .before .piece-count .ensures .0) _ _ _ (c .before .before .before .before .before .loop .inv) (c .before .before .before .before .loop-test .taken) _ (c .before .before .before .audit-step .ensures) _ (c .before .step .given .1)
+loop-again c = search (needs, passing-next)
 
 enum-told : tie.Need-enum-told Inv-loop μ-loop
 enum-told c = search needs
 
 returns : tie.Need-returns Inv-loop μ-loop
-returns c = passing-stops (c .before .before .before .before .before .before .before .before .before .before .before .args .kind) (now (c .before .before .before .before .before .before .before .before .before .before .before .args .slots)) (now (c .before .before .before .before .before .before .before .before .before .before .before .args .rows)) (now (c .before .before .before .before .before .before .before .before .before .before .before .args .checkpoints)) (c .before .before .before .before .before .before .before .before .before .before .before .pre) _ (c .before .before .before .before .before .before .before .piece-count .ensures .0) _ _ _ (c .before .before .before .before .loop .inv) (c .before .before .before .loop-test .taken) _ (c .before .before .audit-step .ensures) (c .enum-told .given .1)
+returns c = search (needs, passing-stops)
+
+row-width-requires : tie.Need-row-width-requires Inv-loop μ-loop
+row-width-requires c κs = search needs
+
+step-requires : tie.Need-step-requires Inv-loop μ-loop
+step-requires c κs = search needs
+
+is-end-requires : tie.Need-is-end-requires Inv-loop μ-loop
+is-end-requires c κs = search needs
 
 returns-2 : tie.Need-returns-2 Inv-loop μ-loop
-returns-2 c = passing-ends (c .before .before .before .before .before .before .before .before .args .kind) (now (c .before .before .before .before .before .before .before .before .args .slots)) (now (c .before .before .before .before .before .before .before .before .args .rows)) (now (c .before .before .before .before .before .before .before .before .args .checkpoints)) (c .before .before .before .before .before .before .before .before .pre) _ (c .before .before .before .before .piece-count .ensures .0) _ _ _ (c .before .loop .inv) (c .loop-test .left)
+returns-2 c = search (needs, passing-ends)
 
 pub areas-sound-spec : {M : Type 1} → statement M
 areas-sound-spec =
@@ -63,9 +71,12 @@ areas-sound-spec =
     loop-holds
     add-n
     audit-step-requires
-    enum-known-step
+    enum-known-after
     loop-less
     loop-again
     enum-told
     returns
+    row-width-requires
+    step-requires
+    is-end-requires
     returns-2)

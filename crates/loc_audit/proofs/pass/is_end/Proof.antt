@@ -1,0 +1,20 @@
+-- `loc_audit::pass::is_end` meets its contract.
+use borrow.Author.Needs.{needs}
+use Rattle.loc_audit.proofs.StepLaws.{end-not, end-is}
+use Rattle.loc_audit.proofs.pass.is_end.Statement.{statement}
+use Rattle.loc_audit.proofs.pass.is_end.Tie as tie
+
+enum-told : tie.Need-enum-told
+enum-told c = search needs
+
+enum-told-2 : tie.Need-enum-told-2
+enum-told-2 c = search needs
+
+returns : tie.Need-returns
+returns c = search (needs, end-not)
+
+returns-2 : tie.Need-returns-2
+returns-2 c = search (needs, end-is)
+
+pub is-end-spec : {M : Type 1} → statement M
+is-end-spec = tie.close (tie.spec enum-told enum-told-2 returns returns-2)
