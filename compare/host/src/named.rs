@@ -1,4 +1,4 @@
-//! Cases that document 01 names with their values, on both sides, the order of refusals in a record, and where a batch has to begin.
+//! Cases that document 01 names with their values, on both sides, the order of refusals in a record, where a batch has to begin, and which rows a slot wants.
 //! Document 01's starred ones are proved; those here are the ones that it leaves to this program, and their neighbours.
 use crate::areas::{empty, put, row, store_len, Areas, Kind, CHECKPOINTS, ROWS, SLOTS};
 use crate::judge::{Batch, Folder};
@@ -104,6 +104,10 @@ pub fn run(
         for (name, areas, batch, number) in beginnings(kind) {
             case(kind, name, areas, &|trial| appended(trial, &batch, number))?;
         }
+        for (slot, strides, spans, sound) in judged(kind) {
+            let name = format!("slot {slot:?} with a row of {strides}, {spans}");
+            case(kind, &name, with_row(kind, slot, strides, spans), &|trial| audited(trial, sound))?;
+        }
     }
     Ok(cases)
 }
@@ -151,6 +155,50 @@ fn one_record(trial: &mut Trial, strides: u32, spans: u32, slot: [u8; 2], rows: 
     trial.call(&Call::Read(vec![1]))?;
     if trial.areas[SLOTS][16..18] != slot || crate::areas::pieces(trial.kind, &trial.areas, ROWS) != rows {
         return Err(format!("both sides store slot {:?}", &trial.areas[SLOTS][16..18]));
+    }
+    trial.audit()
+}
+
+type Judged = ([u8; 2], u32, u32, bool);
+
+/// A slot, the values of a published row, and whether the slot wants it.
+fn judged(kind: Kind) -> Vec<Judged> {
+    match kind {
+        Kind::Paired => vec![
+            ([40, 1], 300, 1, false),
+            ([40, 1], 40, 1, false),
+            ([44, 0], 300, 5, false),
+            ([44, 0], 44, 300, true),
+            ([44, 0], 44, 256, true),
+            ([44, 0], 44, 255, false),
+            ([0, 5], 300, 5, true),
+            ([0, 5], 200, 5, false),
+            ([0, 5], 300, 6, false),
+            ([0, 0], 0, 0, false),
+            ([0, 0], 256, 255, false),
+            ([0, 0], 255, 256, false),
+            ([0, 0], 256, 256, true),
+        ],
+        Kind::Single => vec![
+            ([0, 0], 65_535, 0, false),
+            ([0, 0], 65_536, 0, true),
+            ([0, 1], 256, 0, false),
+            ([0, 1], 65_536, 0, false),
+            ([1, 0], 65_536, 0, false),
+        ],
+    }
+}
+
+/// One record of this slot, with a published row of these values.
+fn with_row(kind: Kind, bytes: [u8; 2], strides: u32, spans: u32) -> Areas {
+    slot(areas(kind, 1, 0, &[row(kind, 1, strides, spans)], 1), 1, bytes)
+}
+
+fn audited(trial: &mut Trial, sound: bool) -> Outcome<()> {
+    trial.call(&Call::Open)?;
+    let shown = trial.shown()?.sound;
+    if shown != sound {
+        return Err(format!("the original's readings show {shown}, document 02 has {sound}"));
     }
     trial.audit()
 }

@@ -40,6 +40,8 @@ pub struct Tally {
     pub histories: u64,
     /// Audits by kind: of an index that is not sound, and of one that is.
     pub audits: [[u64; 2]; 2],
+    /// Of those that are not, by kind, how many only document 02's condition on rows tells.
+    pub by_rows: [u64; 2],
     /// Texts that were read back as listings.
     pub texts: u64,
     /// How often each number came from a listing's calls.
@@ -147,6 +149,9 @@ impl Tally {
                     list.push(format!("{} audit of {name} areas", kind.name()));
                 }
             }
+            if self.by_rows[kind as usize] == 0 {
+                list.push(format!("{} audit of areas that only their rows make unsound", kind.name()));
+            }
         }
         list.extend(OF_A_LISTING.iter().filter(|&&n| self.listings[n] == 0).map(|n| format!("listing {n}")));
         list.extend(OF_AN_ADDRESS.iter().filter(|&&n| self.addresses[n] == 0).map(|n| format!("address {n}")));
@@ -208,8 +213,9 @@ impl Tally {
             format!("{}: {}", kind.name(), list.join(", "))
         };
         let [unsound, sound] = [0, 1].map(|sound| self.audits[0][sound] + self.audits[1][sound]);
+        let by_rows = self.by_rows[0] + self.by_rows[1];
         format!(
-            "comparison with the original: {} calls in {} histories agree ({}; {}), with {} torn states and {} openings that stored, {sound} audits of sound and {unsound} of unsound areas; {} refusals that only the port has",
+            "comparison with the original: {} calls in {} histories agree ({}; {}), with {} torn states and {} openings that stored, {sound} audits of sound and {unsound} of unsound areas, {by_rows} of which only their rows make so; {} refusals that only the port has",
             self.compared(),
             self.histories,
             of(Kind::Paired),

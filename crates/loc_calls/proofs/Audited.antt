@@ -3,21 +3,23 @@
 use Prim.Native.Nat.{ℕ, suc, _+_, _*_, _/_, _^_, _≤_, _<_}
 use mathlib.Core.Path.{_≡_, refl, sym, ap, _∙_, subst}
 use mathlib.Core.Logic.{_⊎_, inl, inr}
-use mathlib.Core.Bool.{Bool, true, false, cond}
+use mathlib.Core.Bool.{Bool, true, false, cond, false≢true}
 use mathlib.Core.List.{List, [], _∷_, _++_, append-assoc}
 use native.Mathlib.Nat.{zero-add}
 use native.Mathlib.Omega.{arith}
-use lib.Dec.{ltb}
+use lib.Dec.{leb, ltb, eqb}
 use lib.ListN.{length, take, length-append}
 use lib.Seq.{take-length}
 use borrow.Author.Tests.{le-leb, lt-ltb, eq-eqb, ne-eqb, ltb-false}
 use Rattle.loc_leaf.specs.declared.Kind.{Kind}
 use Rattle.loc_leaf.specs.declared.Kind.the-variants.{Paired, Single}
 use Rattle.loc_leaf.specs.declared.Value.{Value}
+use Rattle.loc_leaf.specs.Bytes.{Bytes, byte}
 use Rattle.loc_leaf.specs.Answers.{answer}
 use Rattle.loc_leaf.specs.Slot.{below, slot, storedAsZero, needsRow}
 use Rattle.loc_leaf.specs.Rows.{row}
-use Rattle.loc_leaf.proofs.Booleans.{is?}
+use Rattle.loc_leaf.specs.Cut.{matches}
+use Rattle.loc_leaf.proofs.Booleans.{is?, both-left, both-right}
 use Rattle.loc_leaf.proofs.ValueLaws.{SpansFit, Valid, row-number, row-value, needs-row}
 use Rattle.loc_calls.specs.Areas.{Areas}
 use Rattle.loc_calls.specs.Table.{Entry, valueOf}
@@ -61,6 +63,30 @@ slot-fits Single v h z = z
 slot-wants : (k : Kind) (v : Value) → Valid k v → needsRow k (slot k v) ≡ true → rowWanted k (slot k v) v ≡ true
 unfolding rowWanted
 slot-wants k v h t = rw t (slot-fits k v h (sym (needs-row k v h) ∙ t))
+
+-- the cut rule asks less: it matches every row that is wanted
+pub wanted-matches : (k : Kind) (s : Bytes) (v : Value) → rowWanted k s v ≡ true → matches k s v ≡ true
+unfolding rowWanted rowFits needsRow matches
+wanted-matches Single s v e = e
+wanted-matches Paired s v e = go (is? (eqb (byte 0 s) 0)) (is? (eqb (byte 1 s) 0))
+  where
+    first : byteFits (byte 0 s) (v .strides) ≡ true
+    first = both-left (byteFits (byte 0 s) (v .strides)) (byteFits (byte 1 s) (v .spans)) (both-right (needsRow Paired s) (rowFits Paired s v) e)
+
+    second : byteFits (byte 1 s) (v .spans) ≡ true
+    second = both-right (byteFits (byte 0 s) (v .strides)) (byteFits (byte 1 s) (v .spans)) (both-right (needsRow Paired s) (rowFits Paired s v) e)
+
+    go : (eqb (byte 0 s) 0 ≡ true) ⊎ (eqb (byte 0 s) 0 ≡ false) → (eqb (byte 1 s) 0 ≡ true) ⊎ (eqb (byte 1 s) 0 ≡ false) → matches Paired s v ≡ true
+    go (inl x) (inl y) = let f : leb 256 (v .strides) ≡ true = rw x at first in rw (x, y, f) refl
+    go (inl x) (inr y) =
+        let f : leb 256 (v .strides) ≡ true = rw x at first in
+        let g : eqb (byte 1 s) (v .spans) ≡ true = rw y at second in
+        rw (x, y, f, g) refl
+    go (inr x) (inl y) =
+        let f : eqb (byte 0 s) (v .strides) ≡ true = rw x at first in
+        let g : leb 256 (v .spans) ≡ true = rw y at second in
+        rw (x, y, f, g) refl
+    go (inr x) (inr y) = absurd (false≢true (sym (rw (x, y) refl) ∙ both-left (needsRow Paired s) (rowFits Paired s v) e))
 
 module _ (k : Kind) (a : Areas) (E : List Entry) (s : Full k a E) where
   row-sound : (P : List Entry) (e : Entry) (S : List Entry) → E ≡ P ++ (e ∷ S) → needsRow k (slot k (valueOf e)) ≡ true → rowSound k a (row k (suc (length P)) (valueOf e)) ≡ true

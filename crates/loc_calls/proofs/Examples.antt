@@ -241,6 +241,8 @@ pub record Computed : Type 0 where
   zeros : auditOf Paired 0 0 0 0 ≡ answer 0 0
   zeros-one : auditOf Paired 0 0 256 255 ≡ answer 0 0
   zeros-both : auditOf Paired 0 0 256 256 ≡ answer 0 1
+  -- the cut rule asks it of one of them
+  zeros-cut : matches Paired (0 ∷ 0 ∷ []) (record { strides = 256; spans = 255 }) ≡ true
   -- single, on either side of 65,536; a slot with one zero byte needs no row
   single-low : auditOf Single 0 0 65535 0 ≡ answer 0 0
   single-own : auditOf Single 0 0 65536 0 ≡ answer 0 1
@@ -305,6 +307,7 @@ computed = record {
   zeros = refl;
   zeros-one = refl;
   zeros-both = refl;
+  zeros-cut = refl;
   single-low = refl;
   single-own = refl;
   single-inline = refl;

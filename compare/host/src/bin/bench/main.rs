@@ -1,5 +1,5 @@
-//! Port and original on the same data in one process: reading, opening, append, truncation, listings, loads, span addresses, and cost against size, rows and wanted numbers.
-//! bench [--quick] [reading|growth|storing|listing|load|span_at|size|numbers]...   the tables named, all where none is; the result first, from the same lines
+//! Port and original on the same data in one process: reading, opening, append, truncation, listings, loads, span addresses, audits, and cost against size, rows and wanted numbers.
+//! bench [--quick] [reading|growth|storing|listing|load|span_at|audit|size|numbers]...   the tables named, all where none is; the result first, from the same lines
 mod index;
 mod markdown;
 mod measure;
@@ -15,13 +15,14 @@ use turns::Setting;
 
 type Table = fn(&mut Run, &Folder, &Setting);
 
-const TABLES: [(&str, Table); 8] = [
+const TABLES: [(&str, Table); 9] = [
     ("reading", tables::reading_table),
     ("growth", tables::growth_table),
     ("storing", tables::storing_table),
     ("listing", tables::listing_table),
     ("load", tables::load_table),
     ("span_at", tables::span_at_table),
+    ("audit", tables::audit_table),
     ("size", tables::size_table),
     ("numbers", tables::numbers_table),
 ];

@@ -1,7 +1,7 @@
 //! The tables in Markdown. Times in microseconds, ratios of the times that stand beside them.
 //! Nothing is worked out here but ratios, bytes a second, nanoseconds a record, and nanoseconds a row where there are 9,000 rows or more.
 use crate::measure::Both;
-use crate::tables::{Line, Listed, Loaded, Run, Searched, Sized, Stored, LISTING_LINES, STORING_RECORDS};
+use crate::tables::{Audited, Line, Listed, Loaded, Run, Searched, Sized, Stored, LISTING_LINES, STORING_RECORDS};
 
 /// From here on what checks do beside the rows is not seen in their time by row.
 pub const MANY_ROWS: usize = 9_000;
@@ -82,6 +82,9 @@ pub fn print(run: &Run) {
     }
     if !run.span_at.is_empty() {
         span_at(&run.span_at);
+    }
+    if !run.audit.is_empty() {
+        audit(&run.audit);
     }
     if !run.size.is_empty() {
         size(&run.size);
@@ -231,6 +234,41 @@ fn span_at(lines: &[Searched]) {
     println!("\n*call* is `span_at` for an address in the first record, in the one at two fifths of the count, and in the last. *ns a record* and both ratios are of the longest of");
     println!("the three. The call reads the whole index whatever the address is, since 17 is asked of every slot. A search by halves over the original's readings looks at a few windows");
     println!("only, so on large indexes it is faster. Such a search does not see a row that is missing elsewhere, and where checkpoints are wrong it may miss the lowest record.");
+}
+
+impl Audited {
+    pub fn by_record(&self) -> f64 {
+        self.times.call * 1e9 / self.records as f64
+    }
+
+    pub fn against_rust(&self) -> f64 {
+        over(self.times.call, self.times.rust)
+    }
+
+    pub fn against_files(&self) -> f64 {
+        over(self.times.call, self.times.files)
+    }
+}
+
+fn audit(lines: &[Audited]) {
+    println!("\n## Audit of a sound index\n");
+    head("| kind | records | rows | published rows | call | ns a record | pass in Rust | call / Rust | original reads all, files | call / files |");
+    for line in lines {
+        let t = &line.times;
+        println!(
+            "| {} | {} | {} | {} | {} | {:.2} | {} | {} | {} | {} |",
+            line.kind.name(),
+            line.records,
+            line.density,
+            line.rows,
+            us(t.call),
+            line.by_record(),
+            us(t.rust),
+            ratio(line.against_rust()),
+            us(t.files),
+            ratio(line.against_files())
+        );
+    }
 }
 
 fn both((port, files): Both) -> String {

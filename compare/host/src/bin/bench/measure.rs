@@ -1,9 +1,9 @@
-//! What is measured: a reading, an append with the truncation that takes it back, an opening, a listing read back, a load's program, a span address looked for.
+//! What is measured: a reading, an append with the truncation that takes it back, an opening, a listing read back, a load's program, a span address looked for, an audit.
 //! Before a reading is timed the answers of port and original are compared.
 use crate::index::{batch, Index};
 use crate::turns::{group, over_calls, over_lists, spent, Setting, Side};
 use crate::wanted::Spread;
-use host::areas::{Areas, SLOTS};
+use host::areas::{count, counted, Areas, Kind, CHECKPOINTS, ROWS, SLOTS};
 use host::judge::{Folder, Judge};
 use host::listing::{print, read};
 use host::load::{self, printed, PROGRAM};
@@ -250,6 +250,76 @@ pub fn span_at(index: &Index, setting: &Setting) -> Search {
     );
     let [call, halves] = [0, 3].map(|from| [best[from], best[from + 1], best[from + 2]]);
     Search { call, halves, readings: best[6], together: best[7] }
+}
+
+/// Seconds of an audit of a sound index: the port's call, a plain pass in Rust, and the original's readings of all records in calls of 1,024 numbers.
+#[derive(Clone, Copy)]
+pub struct Audit {
+    pub call: f64,
+    pub rust: f64,
+    pub files: f64,
+}
+
+/// Whether settled areas are sound, in one pass over records and rows: what a user would write from the rules.
+fn plain_audit(kind: Kind, areas: &Areas) -> bool {
+    let [_, row_width, checkpoint_width] = kind.widths();
+    let word = |bytes: &[u8]| u64::from_le_bytes(bytes.try_into().unwrap());
+    let value = |row: &[u8], at: usize| u64::from(u32::from_le_bytes(row[at..at + 4].try_into().unwrap()));
+    let fits = |byte: u8, value: u64| if byte == 0 { value >= 256 } else { value == u64::from(byte) };
+    let mut rows = areas[ROWS][16..counted(&areas[ROWS]) as usize].chunks_exact(row_width).peekable();
+    let mut checkpoints = areas[CHECKPOINTS][16..].chunks_exact(checkpoint_width);
+    let (mut body, mut span) = (16u64, 16u64);
+    for (slot, id) in areas[SLOTS][16..].chunks_exact(2).zip(1..=count(areas)) {
+        let row = rows.next_if(|row| word(&row[..8]) == id);
+        let inline = match kind {
+            Kind::Paired => slot[0] != 0 && slot[1] != 0,
+            Kind::Single => slot[0] != 0 || slot[1] != 0,
+        };
+        let (strides, spans) = match (kind, row) {
+            (_, Some(_)) if inline => return false,
+            (_, None) if !inline => return false,
+            (Kind::Paired, None) => (u64::from(slot[0]), u64::from(slot[1])),
+            (Kind::Single, None) => (u64::from(slot[0]) + 256 * u64::from(slot[1]), 0),
+            (Kind::Paired, Some(row)) => (value(row, 8), value(row, 12)),
+            (Kind::Single, Some(row)) => (value(row, 8), 0),
+        };
+        let wanted = match kind {
+            Kind::Paired => fits(slot[0], strides) && fits(slot[1], spans),
+            Kind::Single => strides >= 65_536,
+        };
+        if row.is_some() && !wanted {
+            return false;
+        }
+        let (Some(next_body), Some(next_span)) = (body.checked_add(8 * strides), span.checked_add(8 * spans)) else {
+            return false;
+        };
+        (body, span) = (next_body, next_span);
+        if id % 1024 == 0 {
+            let checkpoint = checkpoints.next().expect("one after each window");
+            if word(&checkpoint[..8]) != body || kind == Kind::Paired && word(&checkpoint[8..]) != span {
+                return false;
+            }
+        }
+    }
+    rows.next().is_none()
+}
+
+pub fn audit(index: &Index, setting: &Setting) -> Audit {
+    let Index { kind, records, areas, judge, .. } = index;
+    let numbers: Vec<Fk> = (1..=*records).map(Fk::new).collect();
+    let best = over_calls(
+        setting,
+        &mut [
+            &mut || assert_eq!(port::audit(*kind, black_box(areas)), (0, 1)),
+            &mut || assert!(plain_audit(*kind, black_box(areas))),
+            &mut || {
+                for list in numbers.chunks(1024) {
+                    assert_eq!(on_files(judge, black_box(list)), list.len());
+                }
+            },
+        ],
+    );
+    Audit { call: best[0], rust: best[1], files: best[2] }
 }
 
 pub fn opening(index: &mut Index, folder: &Folder, setting: &Setting) -> Both {

@@ -1,7 +1,7 @@
 //! What the tables say, worked out from the same lines, as the document's section Result.
 //! Every figure and every "all of them" in its text is computed here.
 use crate::markdown::{head, number, over, ratio, us, MANY_ROWS};
-use crate::tables::{Line, Listed, Loaded, Run, Searched, GROWTH, LISTING_LINES};
+use crate::tables::{Audited, Line, Listed, Loaded, Run, Searched, GROWTH, LISTING_LINES};
 use crate::wanted::{Spread, WORKLOADS};
 use std::cmp::Ordering;
 
@@ -63,6 +63,9 @@ pub fn print(run: &Run) {
     }
     if !run.span_at.is_empty() {
         span_at(&run.span_at);
+    }
+    if !run.audit.is_empty() {
+        audit(&run.audit);
     }
     if !run.numbers.is_empty() {
         numbers(&run.numbers);
@@ -331,6 +334,15 @@ fn span_at(lines: &[Searched]) {
     );
     let most = lines[lines.len() - 1].records;
     println!("time on {} records and {} on {}.", number(lines[0].records), halves(most), number(most));
+}
+
+fn audit(lines: &[Audited]) {
+    println!(
+        "\n**Audit** takes {} ns a record, {} of the time of a plain pass in Rust, and {} of the time in which the original reads all records.",
+        range(&Figures::of(lines.iter().map(Audited::by_record))),
+        range(&Figures::of(lines.iter().map(Audited::against_rust))),
+        range(&Figures::of(lines.iter().map(Audited::against_files)))
+    );
 }
 
 fn numbers(lines: &[Line]) {

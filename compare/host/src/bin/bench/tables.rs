@@ -1,7 +1,9 @@
 //! The tables' measurements: which indexes and which calls.
 //! Every table has its own; what is in two tables was measured for each.
 use crate::index::{build, Index, DENSITIES, KINDS};
-use crate::measure::{listing, load, opening, reading, span_at, storing, Both, Listing, Load, Reading, Search};
+use crate::measure::{
+    audit, listing, load, opening, reading, span_at, storing, Audit, Both, Listing, Load, Reading, Search,
+};
 use crate::turns::{spent, Setting};
 use crate::wanted::{Spread, WORKLOADS};
 use host::areas::Kind;
@@ -50,6 +52,15 @@ pub struct Searched {
     pub times: Search,
 }
 
+/// An audit of one index.
+pub struct Audited {
+    pub kind: Kind,
+    pub records: u64,
+    pub density: &'static str,
+    pub rows: usize,
+    pub times: Audit,
+}
+
 /// All calls on an index of one size.
 pub struct Sized {
     pub line: Line,
@@ -66,6 +77,7 @@ pub struct Run {
     pub listing: Vec<Listed>,
     pub load: Vec<Loaded>,
     pub span_at: Vec<Searched>,
+    pub audit: Vec<Audited>,
     pub size: Vec<Sized>,
     pub numbers: Vec<Line>,
     pub clock: f64,
@@ -157,6 +169,19 @@ pub fn span_at_table(run: &mut Run, folder: &Folder, setting: &Setting) {
             let index = build(Kind::Paired, folder, records, one_in);
             let times = span_at(&index, setting);
             run.span_at.push(Searched { records, density, rows: index.row_count(), times });
+        }
+    }
+}
+
+/// Audits at the same sizes.
+pub fn audit_table(run: &mut Run, folder: &Folder, setting: &Setting) {
+    for kind in KINDS {
+        for records in SIZES {
+            for (density, one_in) in DENSITIES {
+                let index = build(kind, folder, records, one_in);
+                let times = audit(&index, setting);
+                run.audit.push(Audited { kind, records, density, rows: index.row_count(), times });
+            }
         }
     }
 }
