@@ -85,7 +85,7 @@ ownWanted k s Missing = true
 abbrev pub soundFrom : Kind → Areas → Bytes → ℕ → Bool
 soundFrom k a xs at = rowsSound k a (rowsFrom (rowWidth k) xs at)
 
-module _ (k : Kind) (a : Areas) (rs : List Bytes) (xs : Bytes) (n at : ℕ) (i : n < count a) (w : Left k rs xs n at) where
+module _ (k : Kind) (a : Areas) (rs : List Bytes) (xs : Bytes) (n at : ℕ) (inside : n < count a) (w : Left k rs xs n at) where
   -- what one record more finds, where the reader then stands, and what is left to test of the rows
   pub record Turn (row : Row) : Type 0 where
     pub own : ownRow row (suc n) ≡ lookup k (suc n) rs
@@ -136,7 +136,7 @@ module _ (k : Kind) (a : Areas) (rs : List Bytes) (xs : Bytes) (n at : ℕ) (i :
             same = λ id g. w .same id (omega arith) ∙ ap (lookup k id) more ∙ lookup-later k id here others (λ q. omega arith);
             rise = subst (λ (i : ℕ). ascending i others ≡ true) e (rest-ascends n here others rises);
           });
-          rest = rw (more, has-it, goes, e, lt-ltb 0 (suc n) (omega arith), le-leb (suc n) (count a) i) refl;
+          rest = rw (more, has-it, goes, e, lt-ltb 0 (suc n) (omega arith), le-leb (suc n) (count a) inside) refl;
         }
       where
         has-it : lookup k (suc n) rs ≡ Found (rowValue k here)

@@ -27,7 +27,7 @@ use Rattle.loc_calls.specs.Stores.{gather, rowOf}
 use Rattle.loc_calls.specs.Reading.{windowEnd, within}
 use Rattle.loc_calls.specs.Audit.{bodySum, spanSum, bothEnds, checkpointSound, byteFits, rowFits, rowWanted, rowSound, rowsSound, sound}
 use Rattle.loc_calls.specs.Calls.{audit}
-use Rattle.loc_calls.proofs.Gathered.{ValidEntry, AllValid, valid-at}
+use Rattle.loc_calls.proofs.Gathered.{AllValid, valid-at}
 use Rattle.loc_calls.proofs.State.{count-is, few, slot-at, checkpoint-fill}
 use Rattle.loc_calls.proofs.Opening.{Full}
 use Rattle.loc_calls.proofs.Settled.{not-1-nor-6}
