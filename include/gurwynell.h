@@ -90,6 +90,7 @@ uint64_t create_loc_append_listing_run(GURWYNELL_AREAS, const uint8_t *text, siz
 uint64_t create_loc_truncate(GURWYNELL_AREAS, uint64_t count, uint64_t *value);
 uint64_t create_loc_truncate_run(GURWYNELL_AREAS, uint64_t count, uint64_t places, uint64_t *value);
 uint64_t create_loc_read(GURWYNELL_LENT_AREAS, GURWYNELL_READING, uint64_t *value);
+/* The value is 1 where the index is sound, its published rows included, else 0. */
 uint64_t create_loc_audit(GURWYNELL_LENT_AREAS, uint64_t *value);
 /* Whose crossing is at an address: the lowest record whose span range holds it, the index of the span in that record from 0 on, and
  * the remainder 0 to 7, so that address = span start + 8 * index + remainder. The whole index is read. */
