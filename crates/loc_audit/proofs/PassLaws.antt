@@ -31,7 +31,7 @@ use Rattle.loc_rows.proofs.ReaderLaws.{rows-lent}
 use Rattle.loc_audit.specs.declared.Ends.{Ends}
 use Rattle.loc_audit.specs.declared.Step.{Step}
 use Rattle.loc_audit.specs.declared.Step.the-variants.{Next, Unsound}
-use Rattle.loc_audit.specs.Pass.{nextPlace, isEnd, slotSays, added, valued, byRow, recordStep, checkpointIs, checkpointHolds, tested, auditStep, Auditable}
+use Rattle.loc_audit.specs.Pass.{nextRow, isEnd, slotSays, added, valued, recordStep, checkpointIs, checkpointHolds, tested, auditStep, Auditable}
 use Rattle.loc_audit.proofs.RowPassLaws.{Left, ownWanted, soundFrom, Turn, turn, rows-left}
 
 -- ---- over the numbers from 1 on
@@ -162,8 +162,10 @@ pub record Passed (k : Kind) (a : Areas) (xs : Bytes) (n : ℕ) (e : Ends) : Typ
   pub isSpan : e .span ≡ spanSum k a n
   pub bodyLow : e .body < 2 ^ 64
   pub spanLow : e .span < 2 ^ 64
-  pub left : Left k (rowList k (a .rows)) xs n (e .next)
-  pub rest : rowsSound k a (rowList k (a .rows)) ≡ soundFrom k a xs (e .next)
+  pub at : ℕ
+  pub stands : e .row ≡ rowAt (rowWidth k) xs at
+  pub left : Left k (rowList k (a .rows)) xs n at
+  pub rest : rowsSound k a (rowList k (a .rows)) ≡ soundFrom k a xs at
 
 -- a step to n records, or the index is unsound
 abbrev pub Stepped : Kind → Areas → Bytes → ℕ → Step → Type 0
@@ -171,9 +173,9 @@ Stepped k a xs n (Next e) = Passed k a xs n e
 Stepped k a xs n Unsound = sound k a ≡ false
 
 pub pass-begins : (k : Kind) (a : Areas) (end : ℕ) → Auditable k a → end ≡ counted (a .rows) → end ≤ length (a .rows)
-    → Passed k a (take end (a .rows)) 0 (record { body = 16; span = 16; next = 16 })
+    → (row : Row) → row ≡ rowAt (rowWidth k) (take end (a .rows)) 16 → Passed k a (take end (a .rows)) 0 (record { body = 16; span = 16; row = row })
 unfolding allAfter bodySum spanSum stridesAfter spansAfter sumAfter
-pass-begins k a end g e h =
+pass-begins k a end g e h row er =
     record {
       complete = refl;
       checked = refl;
@@ -181,6 +183,8 @@ pass-begins k a end g e h =
       isSpan = refl;
       bodyLow = omega arith;
       spanLow = omega arith;
+      at = 16;
+      stands = er;
       left = record { same = λ id l. ap (lookup k id) (sym lent); rise = ap (ascending 0) lent ∙ g .ascend };
       rest = ap (rowsSound k a) (sym lent);
     }
@@ -188,12 +192,12 @@ pass-begins k a end g e h =
     lent : rowsFrom (rowWidth k) (take end (a .rows)) 16 ≡ rowList k (a .rows)
     lent = rows-lent k (a .rows) (rowWidth k) end refl e h
 
-pub pass-ends : (k : Kind) (a : Areas) (xs : Bytes) (n : ℕ) (e : Ends) → Auditable k a → n ≡ count a → Passed k a xs n e → sound k a ≡ isEnd (rowAt (rowWidth k) xs (e .next))
+pub pass-ends : (k : Kind) (a : Areas) (xs : Bytes) (n : ℕ) (e : Ends) → Auditable k a → n ≡ count a → Passed k a xs n e → sound k a ≡ isEnd (e .row)
 unfolding sound
 pass-ends k a xs n e g q w =
     rw (
       g .checkpointed,
-      w .rest ∙ rows-left k a (rowList k (a .rows)) xs (e .next) (subst (λ (i : ℕ). Left k (rowList k (a .rows)) xs i (e .next)) q (w .left)),
+      w .rest ∙ rows-left k a (rowList k (a .rows)) xs (w .at) (subst (λ (i : ℕ). Left k (rowList k (a .rows)) xs i (w .at)) q (w .left)) ∙ ap isEnd (sym (w .stands)),
       ← q,
       w .complete,
       w .checked,
@@ -221,24 +225,24 @@ module _ (k : Kind) (a : Areas) (xs : Bytes) (n : ℕ) (e : Ends) (g : Auditable
   abbrev slot : Bytes
   slot = slotAt (a .slots) (suc n)
 
-  there : Turn k a rs xs n (e .next) h (w .left) (rowAt (rowWidth k) xs (e .next))
-  there = turn k a rs xs n (e .next) h (w .left)
+  there : Turn k a rs xs n (w .at) h (w .left) (e .row)
+  there = rw (w .stands) (turn k a rs xs n (w .at) h (w .left))
 
-  abbrev next : ℕ
-  next = nextPlace (rowAt (rowWidth k) xs (e .next)) (suc n) (e .next)
+  abbrev next : Row
+  next = nextRow xs (rowWidth k) (e .row) (suc n)
 
   -- the row at the reader's place is the one that loc_calls looks up
   looks : recordStep k (a .slots) xs (suc n) e ≡ valued e next (slotSays k slot (lookup k (suc n) rs))
-  unfolding recordStep byRow
+  unfolding recordStep
   looks = ap (λ (l : Lookup). valued e next (slotSays k slot l)) (there .own)
 
   -- with it, what is left to test of the rows
-  rests : (l : Lookup) → lookup k (suc n) rs ≡ l → rowsSound k a rs ≡ (ownWanted k slot l && soundFrom k a xs next)
-  rests l q = w .rest ∙ there .rest ∙ ap (λ (x : Lookup). ownWanted k slot x && soundFrom k a xs next) q
+  rests : (l : Lookup) → lookup k (suc n) rs ≡ l → rowsSound k a rs ≡ (ownWanted k slot l && soundFrom k a xs (there .next))
+  rests l q = w .rest ∙ there .rest ∙ ap (λ (x : Lookup). ownWanted k slot x && soundFrom k a xs (there .next)) q
 
-  module _ (v : Value) (found : lookupAt k a (suc n) ≡ Found v) (on : rowsSound k a rs ≡ soundFrom k a xs next) where
+  module _ (v : Value) (found : lookupAt k a (suc n) ≡ Found v) (on : rowsSound k a rs ≡ soundFrom k a xs (there .next)) where
     abbrev after : Ends
-    after = record { body = e .body + 8 * v .strides; span = e .span + 8 * v .spans; next = next }
+    after = record { body = e .body + 8 * v .strides; span = e .span + 8 * v .spans; row = next }
 
     body-is : e .body + 8 * v .strides ≡ bodySum k a (suc n)
     body-is = omega (arith, w .isBody, body-more k a n v found)
@@ -295,6 +299,8 @@ module _ (k : Kind) (a : Areas) (xs : Bytes) (n : ℕ) (e : Ends) (g : Auditable
               isSpan = span-is;
               bodyLow = hb;
               spanLow = hs;
+              at = there .next;
+              stands = there .stands;
               left = there .left;
               rest = on;
             })
@@ -356,8 +362,9 @@ pub record Passing (k : Kind) (s r c xs : Bytes) (m n : ℕ) (e : Ends) : Type 0
   pub passed : Passed k (areas s r c) xs n e
 
 module _ (k : Kind) (s r c : Bytes) (g : Auditable k (areas s r c)) (m : ℕ) (em : m ≡ fill 2 s) where
-  pub passing-begins : (end : ℕ) → end ≡ counted r → end ≤ length r → Passing k s r c (take end r) m 0 (record { body = 16; span = 16; next = 16 })
-  passing-begins end e h = record { inside = omega arith; passed = pass-begins k (areas s r c) end g e h }
+  pub passing-begins : (end : ℕ) → end ≡ counted r → end ≤ length r → (w : ℕ) → w ≡ rowWidth k → (row : Row) → row ≡ rowAt w (take end r) 16
+      → Passing k s r c (take end r) m 0 (record { body = 16; span = 16; row = row })
+  passing-begins end e h w ew row er = record { inside = omega arith; passed = pass-begins k (areas s r c) end g e h row (rw (← ew) er) }
 
   module _ (xs : Bytes) (n : ℕ) (e : Ends) (w : Passing k s r c xs m n e) where
     module _ (h : n < m) (q : Step) (eq : q ≡ auditStep k s xs c (n + 1) e) where
@@ -371,6 +378,6 @@ module _ (k : Kind) (s r c : Bytes) (g : Auditable k (areas s r c)) (m : ℕ) (e
       pub passing-stops : q ≡ Unsound → false ≡ sound k (areas s r c)
       passing-stops p = sym (subst (Stepped k (areas s r c) xs (n + 1)) p stepped)
 
-    pub passing-ends : m ≤ n → (width : ℕ) → width ≡ rowWidth k → (row : Row) → row ≡ rowAt width xs (e .next) → (b : Bool) → b ≡ isEnd row → b ≡ sound k (areas s r c)
+    pub passing-ends : m ≤ n → (b : Bool) → b ≡ isEnd (e .row) → b ≡ sound k (areas s r c)
     unfolding count
-    passing-ends h width ew row er b eb = rw (eb, er, ew) (sym (pass-ends k (areas s r c) xs n e g (omega (arith, w .inside)) (w .passed)))
+    passing-ends h b eb = eb ∙ sym (pass-ends k (areas s r c) xs n e g (omega (arith, w .inside)) (w .passed))

@@ -1,4 +1,4 @@
--- The reader along the records: at record n it stands at the first row that is numbered above n.
+-- The reader along the records: after record n it stands at the first row that is numbered above n.
 -- So the row of the next record is the one that stands there, or there is none, and a row that is left at the end is above the count. Rows ascend throughout.
 use Prim.Native.Nat.{ℕ, suc, _+_, _≤_, _<_}
 use mathlib.Core.Path.{_≡_, refl, sym, ap, _∙_, subst}
@@ -27,7 +27,7 @@ use Rattle.loc_rows.specs.declared.Row.{Row}
 use Rattle.loc_rows.specs.declared.Row.the-variants.{End}
 use Rattle.loc_rows.specs.Reader.{fields, rowAt, rowsFrom}
 use Rattle.loc_rows.proofs.ReaderLaws.{row-none, row-whole, row-value, rows-more, rows-none}
-use Rattle.loc_audit.specs.Pass.{ownRow, nextPlace, isEnd}
+use Rattle.loc_audit.specs.Pass.{ownRow, nextRow, isEnd}
 
 -- ---- a list of rows
 
@@ -89,22 +89,25 @@ module _ (k : Kind) (a : Areas) (rs : List Bytes) (xs : Bytes) (n at : ℕ) (ins
   -- what one record more finds, where the reader then stands, and what is left to test of the rows
   pub record Turn (row : Row) : Type 0 where
     pub own : ownRow row (suc n) ≡ lookup k (suc n) rs
-    pub left : Left k rs xs (suc n) (nextPlace row (suc n) at)
-    pub rest : soundFrom k a xs at ≡ (ownWanted k (slotAt (a .slots) (suc n)) (lookup k (suc n) rs) && soundFrom k a xs (nextPlace row (suc n) at))
+    pub next : ℕ
+    pub stands : nextRow xs (rowWidth k) row (suc n) ≡ rowAt (rowWidth k) xs next
+    pub left : Left k rs xs (suc n) next
+    pub rest : soundFrom k a xs at ≡ (ownWanted k (slotAt (a .slots) (suc n)) (lookup k (suc n) rs) && soundFrom k a xs next)
 
-  -- without a row of its own the reader stays, and the same rows are left
-  none-own : lookup k (suc n) rs ≡ Missing → (next : ℕ) → next ≡ at
-      → soundFrom k a xs at ≡ (ownWanted k (slotAt (a .slots) (suc n)) (lookup k (suc n) rs) && soundFrom k a xs next)
+  -- without a row of its own the same rows are left
+  none-own : lookup k (suc n) rs ≡ Missing → soundFrom k a xs at ≡ (ownWanted k (slotAt (a .slots) (suc n)) (lookup k (suc n) rs) && soundFrom k a xs at)
   unfolding ownWanted
-  none-own q next e = rw (q, e) refl
+  none-own q = rw q refl
 
   at-end : length xs < at + rowWidth k → Turn End
-  unfolding ownRow nextPlace ascending
+  unfolding ownRow nextRow ascending
   at-end h =
       record {
         own = sym lacks;
+        next = at;
+        stands = sym (row-none (rowWidth k) xs at h);
         left = record { same = λ id g. w .same id (omega arith); rise = rw none refl };
-        rest = none-own lacks at refl;
+        rest = none-own lacks;
       }
     where
       none : rowsFrom (rowWidth k) xs at ≡ []
@@ -128,34 +131,32 @@ module _ (k : Kind) (a : Areas) (rs : List Bytes) (xs : Bytes) (n at : ℕ) (ins
 
     -- the record's own row
     at-own : rowNumber here ≡ suc n → Turn (fields here (at + rowWidth k))
-    unfolding fields ownRow nextPlace ownWanted rowsSound rowSound within
+    unfolding fields ownRow nextRow ownWanted rowsSound rowSound within
     at-own e =
         record {
-          own = finds ∙ ap (λ (v : Value). Found v) (row-value k (drop at xs)) ∙ sym has-it;
-          left = subst (λ (i : ℕ). Left k rs xs (suc n) i) (sym goes) (record {
+          own = rw (eq-eqb (rowNumber here) (suc n) e) (ap (λ (v : Value). Found v) (row-value k (drop at xs)) ∙ sym has-it);
+          next = at + rowWidth k;
+          stands = rw (eq-eqb (rowNumber here) (suc n) e) refl;
+          left = record {
             same = λ id g. w .same id (omega arith) ∙ ap (lookup k id) more ∙ lookup-later k id here others (λ q. omega arith);
             rise = subst (λ (i : ℕ). ascending i others ≡ true) e (rest-ascends n here others rises);
-          });
-          rest = rw (more, has-it, goes, e, lt-ltb 0 (suc n) (omega arith), le-leb (suc n) (count a) inside) refl;
+          };
+          rest = rw (more, has-it, e, lt-ltb 0 (suc n) (omega arith), le-leb (suc n) (count a) inside) refl;
         }
       where
         has-it : lookup k (suc n) rs ≡ Found (rowValue k here)
         has-it = w .same (suc n) (omega arith) ∙ ap (lookup k (suc n)) more ∙ lookup-first k (suc n) here others e
 
-        finds : ownRow (fields here (at + rowWidth k)) (suc n) ≡ Found (record { strides = numberAt 4 8 here; spans = numberAt 4 12 here })
-        finds = rw (eq-eqb (rowNumber here) (suc n) e) refl
-
-        goes : nextPlace (fields here (at + rowWidth k)) (suc n) at ≡ at + rowWidth k
-        goes = rw (eq-eqb (rowNumber here) (suc n) e) refl
-
-    -- a later record's
+    -- a later record's, at which the reader stays
     at-other : (rowNumber here ≡ suc n → ⊥) → Turn (fields here (at + rowWidth k))
-    unfolding fields ownRow nextPlace
+    unfolding fields ownRow nextRow
     at-other e =
         record {
-          own = finds ∙ sym lacks;
-          left = subst (λ (i : ℕ). Left k rs xs (suc n) i) (sym stays) (record { same = λ id g. w .same id (omega arith); rise = ap (ascending (suc n)) more ∙ rise });
-          rest = none-own lacks _ stays;
+          own = rw (ne-eqb (rowNumber here) (suc n) e) (sym lacks);
+          next = at;
+          stands = rw (ne-eqb (rowNumber here) (suc n) e) (sym (row-whole (rowWidth k) xs at h));
+          left = record { same = λ id g. w .same id (omega arith); rise = ap (ascending (suc n)) more ∙ rise };
+          rest = none-own lacks;
         }
       where
         past : suc n < rowNumber here
@@ -166,12 +167,6 @@ module _ (k : Kind) (a : Areas) (rs : List Bytes) (xs : Bytes) (n at : ℕ) (ins
 
         lacks : lookup k (suc n) rs ≡ Missing
         lacks = w .same (suc n) (omega arith) ∙ ap (lookup k (suc n)) more ∙ none-above k (suc n) (suc n) (here ∷ others) (omega arith) rise
-
-        finds : ownRow (fields here (at + rowWidth k)) (suc n) ≡ Missing
-        finds = rw (ne-eqb (rowNumber here) (suc n) e) refl
-
-        stays : nextPlace (fields here (at + rowWidth k)) (suc n) at ≡ at
-        stays = rw (ne-eqb (rowNumber here) (suc n) e) refl
 
   pub turn : Turn (rowAt (rowWidth k) xs at)
   turn = go (decLe (at + rowWidth k) (length xs))

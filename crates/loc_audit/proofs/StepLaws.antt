@@ -29,43 +29,46 @@ use Rattle.loc_audit.specs.declared.Sum.{Sum}
 use Rattle.loc_audit.specs.declared.Sum.the-variants.{Below, Past}
 use Rattle.loc_audit.specs.declared.Step.{Step}
 use Rattle.loc_audit.specs.declared.Step.the-variants.{Next, Unsound}
-use Rattle.loc_audit.specs.Pass.{ownRow, nextPlace, isEnd, slotSays, endAfter, added, valued, byRow, recordStep, checkpointIs, checkpointHolds, tested, auditStep}
+use Rattle.loc_audit.specs.Pass.{ownRow, nextRow, isEnd, slotSays, endAfter, added, valued, recordStep, checkpointIs, checkpointHolds, tested, auditStep}
 
 -- ---- the row at the reader's place
 
-module _ (row : Row) (id : ℕ) where
+module _ (row : Row) where
   module _ (n s p next : ℕ) (e : row ≡ At n s p next) where
-    pub own-found : n ≡ id → Found (record { strides = s; spans = p }) ≡ ownRow row id
+    pub end-not : false ≡ isEnd row
+    unfolding isEnd
+    end-not = rw e refl
+
+    module _ (id : ℕ) where
+      pub own-found : n ≡ id → Found (record { strides = s; spans = p }) ≡ ownRow row id
+      unfolding ownRow
+      own-found h = rw (e, eq-eqb n id h) refl
+
+      pub own-other : (n ≡ id → ⊥) → Missing ≡ ownRow row id
+      unfolding ownRow
+      own-other h = rw (e, ne-eqb n id h) refl
+
+      module _ (rows : Bytes) (w : ℕ) where
+        pub next-own : n ≡ id → (r : Row) → r ≡ rowAt w rows next → r ≡ nextRow rows w row id
+        unfolding nextRow
+        next-own h r er = rw (e, eq-eqb n id h) er
+
+        pub next-other : (n ≡ id → ⊥) → At n s p next ≡ nextRow rows w row id
+        unfolding nextRow
+        next-other h = rw (e, ne-eqb n id h) refl
+
+  module _ (e : row ≡ End) where
+    pub end-is : true ≡ isEnd row
+    unfolding isEnd
+    end-is = rw e refl
+
+    pub own-end : (id : ℕ) → Missing ≡ ownRow row id
     unfolding ownRow
-    own-found h = rw (e, eq-eqb n id h) refl
+    own-end id = rw e refl
 
-    pub own-other : (n ≡ id → ⊥) → Missing ≡ ownRow row id
-    unfolding ownRow
-    own-other h = rw (e, ne-eqb n id h) refl
-
-    pub next-own : (at : ℕ) → n ≡ id → next ≡ nextPlace row id at
-    unfolding nextPlace
-    next-own at h = rw (e, eq-eqb n id h) refl
-
-    pub next-other : (at : ℕ) → (n ≡ id → ⊥) → at ≡ nextPlace row id at
-    unfolding nextPlace
-    next-other at h = rw (e, ne-eqb n id h) refl
-
-  pub own-end : row ≡ End → Missing ≡ ownRow row id
-  unfolding ownRow
-  own-end e = rw e refl
-
-  pub next-end : (at : ℕ) → row ≡ End → at ≡ nextPlace row id at
-  unfolding nextPlace
-  next-end at e = rw e refl
-
-pub end-not : (row : Row) (n s p next : ℕ) → row ≡ At n s p next → false ≡ isEnd row
-unfolding isEnd
-end-not row n s p next e = rw e refl
-
-pub end-is : (row : Row) → row ≡ End → true ≡ isEnd row
-unfolding isEnd
-end-is row e = rw e refl
+    pub next-end : (rows : Bytes) (w id : ℕ) → End ≡ nextRow rows w row id
+    unfolding nextRow
+    next-end rows w id = rw e refl
 
 -- ---- the slot
 
@@ -174,18 +177,18 @@ module _ (end units : ℕ) (r : Sum) (e : r ≡ endAfter end units) where
       go (yes h) = h
       go (no h) = let i = lt-ltb (end + 8 * units) (2 ^ 64) (omega arith) in let z : _≡_ {A = ℕ} 0 1 = cc in absurd (zero-one z)
 
-module _ (e : Ends) (v : Value) (next : ℕ) (b : Sum) (eb : b ≡ endAfter (e .body) (v .strides)) where
-  pub add-body-past : b ≡ Past → Unsound ≡ added e v next
+module _ (e : Ends) (v : Value) (row : Row) (b : Sum) (eb : b ≡ endAfter (e .body) (v .strides)) where
+  pub add-body-past : b ≡ Past → Unsound ≡ added e v row
   unfolding added
   add-body-past h = rw (le-ltb (e .body + 8 * v .strides) (2 ^ 64) (past-is (e .body) (v .strides) b eb h)) refl
 
   module _ (x : ℕ) (h : b ≡ Below x) (d : Sum) (ed : d ≡ endAfter (e .span) (v .spans)) where
-    pub add-span-past : d ≡ Past → Unsound ≡ added e v next
+    pub add-span-past : d ≡ Past → Unsound ≡ added e v row
     unfolding added
     add-span-past g =
         rw (lt-ltb (e .body + 8 * v .strides) (2 ^ 64) (below-is (e .body) (v .strides) b eb x h .1), le-ltb (e .span + 8 * v .spans) (2 ^ 64) (past-is (e .span) (v .spans) d ed g)) refl
 
-    pub add-both : (y : ℕ) → d ≡ Below y → Next (record { body = x; span = y; next = next }) ≡ added e v next
+    pub add-both : (y : ℕ) → d ≡ Below y → Next (record { body = x; span = y; row = row }) ≡ added e v row
     unfolding added
     add-both y g =
         let p = below-is (e .body) (v .strides) b eb x h in
@@ -194,15 +197,15 @@ module _ (e : Ends) (v : Value) (next : ℕ) (b : Sum) (eb : b ≡ endAfter (e .
 
 -- ---- one record
 
-module _ (k : Kind) (slots rows : Bytes) (id : ℕ) (e : Ends) (w : ℕ) (ew : w ≡ rowWidth k) (row : Row) (er : row ≡ rowAt w rows (e .next))
-    (own : Lookup) (eo : own ≡ ownRow row id) (found : Lookup) (ef : found ≡ slotSays k (slotAt slots id) own) where
-  by-row : recordStep k slots rows id e ≡ valued e (nextPlace row id (e .next)) found
-  unfolding recordStep byRow
-  by-row = rw (← ew, ← er, ← eo, ← ef) refl
+module _ (k : Kind) (slots rows : Bytes) (id : ℕ) (e : Ends) (own : Lookup) (eo : own ≡ ownRow (e .row) id) (found : Lookup) (ef : found ≡ slotSays k (slotAt slots id) own) where
+  by-row : recordStep k slots rows id e ≡ valued e (nextRow rows (rowWidth k) (e .row) id) found
+  unfolding recordStep
+  by-row = rw (← eo, ← ef) refl
 
-  pub record-found : (v : Value) → found ≡ Found v → (next : ℕ) → next ≡ nextPlace row id (e .next) → (r : Step) → r ≡ added e v next → r ≡ recordStep k slots rows id e
+  pub record-found : (v : Value) → found ≡ Found v → (w : ℕ) → w ≡ rowWidth k → (row : Row) → row ≡ nextRow rows w (e .row) id
+      → (r : Step) → r ≡ added e v row → r ≡ recordStep k slots rows id e
   unfolding valued
-  record-found v h next en r g = g ∙ sym (by-row ∙ rw (h, ← en) refl)
+  record-found v h w ew row en r g = g ∙ sym (by-row ∙ rw (h, ← ew, ← en) refl)
 
   pub record-missing : found ≡ Missing → Unsound ≡ recordStep k slots rows id e
   unfolding valued

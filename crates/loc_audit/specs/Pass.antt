@@ -30,10 +30,10 @@ unfoldable pub ownRow : Row → ℕ → Lookup
 ownRow (At n s p next) id = cond (eqb n id) (Found (record { strides = s; spans = p })) Missing
 ownRow End id = Missing
 
--- where the reader goes on
-unfoldable pub nextPlace : Row → ℕ → ℕ → ℕ
-nextPlace (At n s p next) id at = cond (eqb n id) next at
-nextPlace End id at = at
+-- the row at which it then stands
+unfoldable pub nextRow : Bytes → ℕ → Row → ℕ → Row
+nextRow rows w (At n s p next) id = cond (eqb n id) (rowAt w rows next) (At n s p next)
+nextRow rows w End id = End
 
 -- all rows are passed
 unfoldable pub isEnd : Row → Bool
@@ -50,23 +50,19 @@ unfoldable pub endAfter : ℕ → ℕ → Sum
 endAfter end units = cond (ltb (end + 8 * units) (2 ^ 64)) (Below (end + 8 * units)) Past
 
 -- both ends after a record of this value, where both stay below 2^64; a single one has no spans
-unfoldable pub added : Ends → Value → ℕ → Step
-added e v next =
+unfoldable pub added : Ends → Value → Row → Step
+added e v row =
     cond (ltb (e .body + 8 * v .strides) (2 ^ 64) && ltb (e .span + 8 * v .spans) (2 ^ 64))
-    (Next (record { body = e .body + 8 * v .strides; span = e .span + 8 * v .spans; next = next }))
+    (Next (record { body = e .body + 8 * v .strides; span = e .span + 8 * v .spans; row = row }))
     Unsound
 
 -- a record of which slot and row say nothing makes the index unsound
-unfoldable pub valued : Ends → ℕ → Lookup → Step
-valued e next (Found v) = added e v next
-valued e next Missing = Unsound
-
--- by the row at which the reader stands
-unfoldable pub byRow : Kind → Bytes → ℕ → Ends → Row → Step
-byRow k slots id e row = valued e (nextPlace row id (e .next)) (slotSays k (slotAt slots id) (ownRow row id))
+unfoldable pub valued : Ends → Row → Lookup → Step
+valued e row (Found v) = added e v row
+valued e row Missing = Unsound
 
 unfoldable pub recordStep : Kind → Bytes → Bytes → ℕ → Ends → Step
-recordStep k slots rows id e = byRow k slots id e (rowAt (rowWidth k) rows (e .next))
+recordStep k slots rows id e = valued e (nextRow rows (rowWidth k) (e .row) id) (slotSays k (slotAt slots id) (ownRow (e .row) id))
 
 -- checkpoint w is these ends
 unfoldable pub checkpointIs : Kind → Bytes → ℕ → Ends → Bool

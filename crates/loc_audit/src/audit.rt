@@ -26,10 +26,11 @@ fn areas_sound(kind: Kind, slots: &[u8], rows: &[u8], checkpoints: &[u8]) -> boo
     let count = piece_count(slots, 2) as u64;
     let end = logical_len(rows);
     let published = &rows[..end];
+    let row = step(published, FILE_HEADER_LEN, row_width(kind));
     let mut e = Ends {
         body: 16,
         span: 16,
-        next: FILE_HEADER_LEN,
+        row,
     };
     let mut n: u64 = 0;
     while n < count {
@@ -43,7 +44,8 @@ fn areas_sound(kind: Kind, slots: &[u8], rows: &[u8], checkpoints: &[u8]) -> boo
             }
         }
     }
-    is_end(step(published, e.next, row_width(kind)))
+    let left = e.row;
+    is_end(left)
 }
 
 pub fn audit_areas(kind: Kind, slots: &[u8], rows: &[u8], checkpoints: &[u8]) -> Answer

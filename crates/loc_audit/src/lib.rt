@@ -3,11 +3,13 @@
 pub mod audit;
 pub mod pass;
 
-// Where the records so far end, body and span, both from 16 on, and the place of the next row.
+use loc_rows::Row;
+
+// Where the records so far end, body and span, both from 16 on, and the row that the reader stands at.
 pub struct Ends {
     pub body: u64,
     pub span: u64,
-    pub next: usize,
+    pub row: Row,
 }
 
 // A sum below 2^64, or that it would pass that.

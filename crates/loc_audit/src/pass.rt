@@ -1,11 +1,11 @@
 // One record of the audit's pass: its row, its value, the ends after it, and its checkpoint.
-// The reader is carried along by its place, which is that of the first row numbered above the record before.
+// The row that the reader stands at is carried along: the first one numbered above the record before. So each row is read once.
 ghost use mathlib.Core.Path.{_≡_};
 ghost use mathlib.Core.List.{[], _∷_};
 ghost use Prim.Native.Nat.{_^_, _<_};
 ghost use Rattle.loc_leaf.specs.Slot.{slotAt};
 ghost use Rattle.loc_calls.specs.Audit.{byteFits, rowFits, rowWanted};
-ghost use Rattle.loc_audit.specs.Pass.{ownRow, nextPlace, isEnd, slotSays, endAfter, added, recordStep, checkpointIs, checkpointHolds, auditStep};
+ghost use Rattle.loc_audit.specs.Pass.{ownRow, nextRow, isEnd, slotSays, endAfter, added, recordStep, checkpointIs, checkpointHolds, auditStep};
 use crate::Ends;
 use crate::Step;
 use crate::Sum;
@@ -42,23 +42,28 @@ fn own_row(row: Row, id: u64) -> Lookup
     }
 }
 
-// The reader's place after record id: past its row, if it has one.
-fn next_place(row: Row, id: u64, at: usize) -> usize
-    ensures { λ r. ⌜ r ≡ nextPlace row id at ⌝ }
+// The row that the reader stands at after record id: the next one, if this is its own.
+fn next_row(rows: &[u8], width: usize, row: Row, id: u64) -> Row
+    ensures { λ r. ⌜ r ≡ nextRow (now (rows .entry)) width row id ⌝ }
 {
     match row {
         Row::At {
             number,
-            strides: _,
-            spans: _,
+            strides,
+            spans,
             next,
         } => {
             if number == id {
-                return next;
+                return step(rows, next, width);
             }
-            at
+            Row::At {
+                number,
+                strides,
+                spans,
+                next,
+            }
         }
-        Row::End => at,
+        Row::End => Row::End,
     }
 }
 
@@ -147,8 +152,8 @@ fn end_after(end: u64, units: u32) -> Sum
 }
 
 // The ends after a record of this value.
-fn add(e: Ends, v: Value, next: usize) -> Step
-    ensures { λ r. ⌜ r ≡ added e v next ⌝ }
+fn add(e: Ends, v: Value, row: Row) -> Step
+    ensures { λ r. ⌜ r ≡ added e v row ⌝ }
 {
     let Sum::Below(body) = end_after(e.body, v.strides) else {
         return Step::Unsound;
@@ -156,18 +161,18 @@ fn add(e: Ends, v: Value, next: usize) -> Step
     let Sum::Below(span) = end_after(e.span, v.spans) else {
         return Step::Unsound;
     };
-    Step::Next(Ends { body, span, next })
+    Step::Next(Ends { body, span, row })
 }
 
 // The ends after record id.
 fn record_step(kind: Kind, slots: &[u8], rows: &[u8], id: u64, e: Ends) -> Step
     ensures { λ r. ⌜ r ≡ recordStep kind (now (slots .entry)) (now (rows .entry)) id e ⌝ }
 {
-    let row = step(rows, e.next, row_width(kind));
+    let row = e.row;
     let own = own_row(row, id);
     let found = slot_says(kind, slots, id, own);
     match found {
-        Lookup::Found(v) => add(e, v, next_place(row, id, e.next)),
+        Lookup::Found(v) => add(e, v, next_row(rows, row_width(kind), row, id)),
         Lookup::Missing => Step::Unsound,
     }
 }

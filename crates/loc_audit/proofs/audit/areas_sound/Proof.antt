@@ -23,8 +23,14 @@ logical-len-requires c κs = search needs
 slice-aggregate-published : tie.Need-slice-aggregate-published Inv-loop μ-loop
 slice-aggregate-published c = sym (length-take-le _ _ (omega arith))
 
+row-width-requires : tie.Need-row-width-requires Inv-loop μ-loop
+row-width-requires c κs = search needs
+
+step-requires : tie.Need-step-requires Inv-loop μ-loop
+step-requires c κs = search needs
+
 loop-holds : tie.Need-loop-holds Inv-loop μ-loop
-loop-holds c = passing-begins _ _ _ _ (c .before .before .before .before .before .before .pre) _ (c .before .before .piece-count .ensures .0) _ (c .before .logical-len .ensures .0) (c .before .logical-len .ensures .1)
+loop-holds c = search (needs, passing-begins)
 
 add-n : tie.Need-add-n Inv-loop μ-loop
 add-n c = search needs
@@ -47,12 +53,6 @@ enum-told c = search needs
 returns : tie.Need-returns Inv-loop μ-loop
 returns c = search (needs, passing-stops)
 
-row-width-requires : tie.Need-row-width-requires Inv-loop μ-loop
-row-width-requires c κs = search needs
-
-step-requires : tie.Need-step-requires Inv-loop μ-loop
-step-requires c κs = search needs
-
 is-end-requires : tie.Need-is-end-requires Inv-loop μ-loop
 is-end-requires c κs = search needs
 
@@ -68,6 +68,8 @@ areas-sound-spec =
     piece-count-requires
     logical-len-requires
     slice-aggregate-published
+    row-width-requires
+    step-requires
     loop-holds
     add-n
     audit-step-requires
@@ -76,7 +78,5 @@ areas-sound-spec =
     loop-again
     enum-told
     returns
-    row-width-requires
-    step-requires
     is-end-requires
     returns-2)

@@ -4,12 +4,6 @@ use Rattle.loc_audit.proofs.StepLaws.{record-found, record-missing}
 use Rattle.loc_audit.proofs.pass.record_step.Statement.{statement}
 use Rattle.loc_audit.proofs.pass.record_step.Tie as tie
 
-row-width-requires : tie.Need-row-width-requires
-row-width-requires c κs = search needs
-
-step-requires : tie.Need-step-requires
-step-requires c κs = search needs
-
 own-row-requires : tie.Need-own-row-requires
 own-row-requires c κs = search needs
 
@@ -19,8 +13,11 @@ slot-says-requires c κs = search needs
 enum-known-found : tie.Need-enum-known-found
 enum-known-found c = search needs
 
-next-place-requires : tie.Need-next-place-requires
-next-place-requires c κs = search needs
+row-width-requires : tie.Need-row-width-requires
+row-width-requires c κs = search needs
+
+next-row-requires : tie.Need-next-row-requires
+next-row-requires c κs = search needs
 
 add-requires : tie.Need-add-requires
 add-requires c κs = search needs
@@ -38,12 +35,11 @@ pub record-step-spec : {M : Type 1} → statement M
 record-step-spec =
     tie.close
     (tie.spec
-    row-width-requires
-    step-requires
     own-row-requires
     slot-says-requires
     enum-known-found
-    next-place-requires
+    row-width-requires
+    next-row-requires
     add-requires
     enum-told
     returns

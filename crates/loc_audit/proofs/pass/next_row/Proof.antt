@@ -1,11 +1,14 @@
--- `loc_audit::pass::next_place` meets its contract.
+-- `loc_audit::pass::next_row` meets its contract.
 use borrow.Author.Needs.{needs}
 use Rattle.loc_audit.proofs.StepLaws.{next-own, next-other, next-end}
-use Rattle.loc_audit.proofs.pass.next_place.Statement.{statement}
-use Rattle.loc_audit.proofs.pass.next_place.Tie as tie
+use Rattle.loc_audit.proofs.pass.next_row.Statement.{statement}
+use Rattle.loc_audit.proofs.pass.next_row.Tie as tie
 
 enum-known-row : tie.Need-enum-known-row
 enum-known-row c = search needs
+
+step-requires : tie.Need-step-requires
+step-requires c κs = search needs
 
 returns : tie.Need-returns
 returns c = search (needs, next-own)
@@ -19,5 +22,6 @@ returns-2 c = search (needs, next-other)
 returns-3 : tie.Need-returns-3
 returns-3 c = search (needs, next-end)
 
-pub next-place-spec : {M : Type 1} → statement M
-next-place-spec = tie.close (tie.spec enum-known-row returns enum-told returns-2 returns-3)
+pub next-row-spec : {M : Type 1} → statement M
+next-row-spec =
+    tie.close (tie.spec enum-known-row step-requires returns enum-told returns-2 returns-3)
