@@ -15,7 +15,7 @@ use Rattle.loc_leaf.specs.declared.Kind.the-variants.{Paired, Single}
 use Rattle.loc_leaf.specs.declared.Value.{Value}
 use Rattle.loc_leaf.specs.declared.delta_loc.Lookup.{Lookup}
 use Rattle.loc_leaf.specs.declared.delta_loc.Lookup.the-variants.{Found, Missing}
-use Rattle.loc_leaf.specs.Bytes.{Bytes, numberAt}
+use Rattle.loc_leaf.specs.Bytes.{Bytes}
 use Rattle.loc_leaf.specs.Kind.{rowWidth}
 use Rattle.loc_leaf.specs.Slot.{slotAt}
 use Rattle.loc_leaf.specs.Rows.{rowNumber, rowValue, rowFor, hasRow, lookup, ascending}
