@@ -11,7 +11,7 @@ mod script;
 use libc::STDIN_FILENO;
 
 fn main() {
-    let mut text = [0u8; 16384];
+    let mut text = [0u8; 32768];
     let n = io::read_full(STDIN_FILENO, &mut text);
     cases::run(&text[..n]);
 }
