@@ -1,7 +1,7 @@
 -- Strides, slots, the checkpoint rule and the cut rule, in the form in which the code meets them.
 -- A law for each way through a function: the results of its calls and its tests are premises.
 use Prim.Native.Nat.{ℕ, _+_, _-_, _*_, _/_, _%_, _^_, _≤_, _<_, min}
-use mathlib.Core.Path.{_≡_, refl, sym, ap, _∙_}
+use mathlib.Core.Path.{_≡_, refl, sym, ap, subst, _∙_}
 use mathlib.Core.Bool.{Bool, true, false, not}
 use mathlib.Core.List.{[], _∷_}
 use native.Mathlib.Omega.{arith}
@@ -10,11 +10,12 @@ use lib.Dec.{leb, eqb}
 use lib.ListN.{length, take, drop, drop-of-length-le}
 use lib.Seq.{getD-take, drop-length}
 use borrow.Author.Tests.{lt-ltb, le-ltb, le-leb, lt-leb, eq-eqb, ne-eqb, leb-false, eqb-true, eqb-false, not-false}
+use Rattle.loc_leaf.specs.declared.Answer.{Answer}
 use Rattle.loc_leaf.specs.declared.Kind.{Kind}
 use Rattle.loc_leaf.specs.declared.Kind.the-variants.{Paired, Single}
 use Rattle.loc_leaf.specs.declared.Value.{Value}
 use Rattle.loc_leaf.specs.Bytes.{Bytes, byte, bytes, numberAt}
-use Rattle.loc_leaf.specs.Answers.{refuse, _orElse_, answer}
+use Rattle.loc_leaf.specs.Answers.{refuse, _orElse_, acceptedWith, refusedBy, answer}
 use Rattle.loc_leaf.specs.Slot.{stridesRefusal, stridesFrom, below, slot, needsRow, inline, slotAt, checkpointRule}
 use Rattle.loc_leaf.specs.Rows.{rowNumber, rowValue}
 use Rattle.loc_leaf.specs.Cut.{agrees, overflows, matches, cuts, cutFor}
@@ -28,21 +29,25 @@ abbrev pub WholeStrides : ℕ → Type 0
 WholeStrides len = (len % 8 ≡ 0) × (0 < len / 8) × (len / 8 < 2 ^ 32)
 
 module _ (len : ℕ) where
-  pub strides-none : len ≡ 0 → record { number = 22; value = 0 } ≡ stridesFrom len
+  pub strides-none : len ≡ 0 → refusedBy 22 ≡ stridesFrom len
   unfolding stridesFrom stridesRefusal answer
   strides-none e = rw (eq-eqb len 0 e) refl
 
-  pub strides-ragged : (len ≡ 0 → ⊥) → (len % 8 ≡ 0 → ⊥) → record { number = 9; value = 0 } ≡ stridesFrom len
+  pub strides-ragged : (len ≡ 0 → ⊥) → (len % 8 ≡ 0 → ⊥) → refusedBy 9 ≡ stridesFrom len
   unfolding stridesFrom stridesRefusal answer
   strides-ragged h g = rw (ne-eqb len 0 h, ne-eqb (len % 8) 0 g) refl
 
-  pub strides-many : (len ≡ 0 → ⊥) → len % 8 ≡ 0 → 2 ^ 32 ≤ len / 8 → record { number = 10; value = 0 } ≡ stridesFrom len
+  pub strides-many : (len ≡ 0 → ⊥) → len % 8 ≡ 0 → 2 ^ 32 ≤ len / 8 → refusedBy 10 ≡ stridesFrom len
   unfolding stridesFrom stridesRefusal answer
   strides-many h e l = rw (ne-eqb len 0 h, eq-eqb (len % 8) 0 e, le-leb (2 ^ 32) (len / 8) l) refl
 
-  pub strides-of : (len ≡ 0 → ⊥) → len % 8 ≡ 0 → len / 8 < 2 ^ 32 → record { number = 0; value = len / 8 } ≡ stridesFrom len
+  pub strides-of : (len ≡ 0 → ⊥) → len % 8 ≡ 0 → len / 8 < 2 ^ 32 → acceptedWith (len / 8) ≡ stridesFrom len
   unfolding stridesFrom stridesRefusal answer
   strides-of h e l = rw (ne-eqb len 0 h, eq-eqb (len % 8) 0 e, lt-leb (2 ^ 32) (len / 8) l) refl
+
+  -- an answer that is what the rule gives, with a value of 32 bits
+  pub strides-given : {r a : Answer} → r ≡ a → a .value < 2 ^ 32 → a ≡ stridesFrom len → (r ≡ stridesFrom len) × (r .value < 2 ^ 32)
+  strides-given e l s = (e ∙ s, subst (λ q. q .value < 2 ^ 32) (sym e) l)
 
   pub strides-fit : stridesRefusal len ≡ 0 → WholeStrides len
   unfolding stridesRefusal

@@ -13,7 +13,13 @@ abbrev pub _orElse_ : ℕ → ℕ → ℕ
 zero orElse m = m
 suc n orElse m = suc n
 
+abbrev pub acceptedWith : ℕ → Answer
+acceptedWith v = record { number = 0; value = v }
+
+abbrev pub refusedBy : ℕ → Answer
+refusedBy n = record { number = n; value = 0 }
+
 -- an accepted call gives 0 and its value
 unfoldable pub answer : ℕ → ℕ → Answer
-answer zero v = record { number = 0; value = v }
-answer (suc n) v = record { number = suc n; value = 0 }
+answer zero v = acceptedWith v
+answer (suc n) v = refusedBy (suc n)

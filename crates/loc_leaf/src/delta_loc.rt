@@ -17,6 +17,11 @@ use crate::file::byte_at;
 use crate::file::logical_len;
 use crate::file::u32_at;
 use crate::file::u64_at;
+use crate::refusal::BODY_EMPTY;
+use crate::refusal::LENGTH_NOT_PADDED;
+use crate::refusal::TOO_MANY_STRIDES;
+use crate::refusal::accepted;
+use crate::refusal::refused;
 
 // Bytes of a stride.
 pub const IDX_STRIDE: u64 = 8;
@@ -79,29 +84,17 @@ pub fn strides_from_aligned_len(len: u64) -> Answer
     ensures { λ r. ⌜ (r ≡ stridesFrom len) × (r .value < 2 ^ 32) ⌝ }
 {
     if len == 0 {
-        return Answer {
-            number: 22,
-            value: 0,
-        };
+        return refused(BODY_EMPTY);
     }
     let over = len % IDX_STRIDE;
     if over != 0 {
-        return Answer {
-            number: 9,
-            value: 0,
-        };
+        return refused(LENGTH_NOT_PADDED);
     }
     let strides = len / IDX_STRIDE;
     if 0x1_0000_0000 <= strides {
-        return Answer {
-            number: 10,
-            value: 0,
-        };
+        return refused(TOO_MANY_STRIDES);
     }
-    Answer {
-        number: 0,
-        value: strides,
-    }
+    accepted(strides)
 }
 
 fn below_byte(v: u32) -> u8

@@ -3,6 +3,7 @@
 pub mod delta_loc;
 pub mod file;
 pub mod loc_simd;
+pub mod refusal;
 
 // Paired: strides and span counts (`create_loc`). Single: strides alone (`delta_loc`).
 pub enum Kind {
