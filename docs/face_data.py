@@ -1,6 +1,6 @@
 #!/usr/bin/env python3
-# Writes data/ and stdout of the programs crates/face_*: the files of a face, and the listing that document 01's rules ask of them;
-# and stdin and stdout of face_import* and face_load*, by document 02's. Run it in the repository's root; the gate runs the programs and needs no Python.
+# Writes what the programs crates/face_* are run on, and what they are to print, by the rules of documents 01 and 02: data/ and stdout of face_list,
+# stdin and stdout of face_import and face_load, and data/ and stdout of face_cases, which goes over the sets below. Run it in the repository's root; the gate needs no Python.
 import os
 import re
 from struct import pack
@@ -32,50 +32,64 @@ def face(records):
     return slots, rows, checkpoints, lines
 
 
-def write(name, slots, rows, checkpoints, text):
-    data = f"crates/{name}/data"
-    for file, content in (("face.loc", slots), ("face.loc.ovf", rows), ("face.off", checkpoints)):
+cases = []
+
+
+def write(path, content):
+    os.makedirs(os.path.dirname(path), exist_ok=True)
+    with open(path, "wb") as out:
+        out.write(content)
+
+
+def case(name, files, text):
+    """Files of face_cases, and what is printed of them after their name."""
+    for file, content in files:
         if content is not None:
-            os.makedirs(data, exist_ok=True)
-            with open(f"{data}/{file}", "wb") as out:
-                out.write(content)
-    with open(f"crates/{name}/stdout", "w") as out:
-        out.write(text)
+            write(f"crates/face_cases/data/{file}", content)
+    cases.append(f"{name}\n{text}")
 
 
-def listed(name, records):
+def area_case(name, slots, rows, checkpoints, text):
+    case(f"{name}.loc", ((f"{name}.loc", slots), (f"{name}.loc.ovf", rows), (f"{name}.off", checkpoints)), text)
+
+
+def areas(records):
     slots, rows, checkpoints, lines = face(records)
-    write(name, area(slots), area(rows), area(checkpoints), NAMES + "".join(lines))
+    return area(slots), area(rows), area(checkpoints), NAMES + "".join(lines)
 
 
 # a small corpus: document 01's two records, values on either side of a byte's limit, and rows
-listed("face_list", [(40, 3), (2048, 1), (2040, 255), (2048, 256), (8, 300), (800000, 70000), (16, 2)])
+*files, text = areas([(40, 3), (2048, 1), (2040, 255), (2048, 256), (8, 300), (800000, 70000), (16, 2)])
+for file, content in zip(("face.loc", "face.loc.ovf", "face.off"), files):
+    write(f"crates/face_list/data/{file}", content)
+write("crates/face_list/stdout", text.encode())
+
 # document 01's example
-listed("face_two", [(40, 3), (2048, 1)])
+area_case("two", *areas([(40, 3), (2048, 1)]))
 # one record past the first window, with rows before and after its edge
-listed("face_windows", [(8 * (1 + i % 300), 1 + i % 7) for i in range(1026)])
+area_case("windows", *areas([(8 * (1 + i % 300), 1 + i % 7) for i in range(1026)]))
 # no records
-listed("face_empty", [])
+area_case("empty", *areas([]))
 
 empty = area(b"")
 two = face([(40, 3), (2048, 1)])
-write("face_small", empty, empty[:15], empty, "refused 1\n")
-write("face_odd_slots", area(b"\5\3\1"), empty, empty, "refused 2\n")
-write("face_ragged_checkpoints", area(two[0]), area(two[1]), area(bytes(8)), "refused 3\n")
-write("face_ragged_rows", area(two[0]), area(two[1] + bytes(8)), empty, "refused 4\n")
-write("face_row_order", area(two[0]), area(two[1] + two[1]), empty, "refused 5\n")
+area_case("small", empty, empty[:15], empty, "refused 1\n")
+area_case("odd_slots", area(b"\5\3\1"), empty, empty, "refused 2\n")
+area_case("ragged_checkpoints", area(two[0]), area(two[1]), area(bytes(8)), "refused 3\n")
+area_case("ragged_rows", area(two[0]), area(two[1] + bytes(8)), empty, "refused 4\n")
+area_case("row_order", area(two[0]), area(two[1] + two[1]), empty, "refused 5\n")
 
 # the row of record 1,025 is missing: window 0 is listed, then 17
 slots, rows, checkpoints, lines = face([(8, 1)] * 1024 + [(2048, 1)])
-write("face_row_missing", area(slots), empty, area(checkpoints), NAMES + "".join(lines[:1024]) + "refused 17\n")
+area_case("row_missing", area(slots), empty, area(checkpoints), NAMES + "".join(lines[:1024]) + "refused 17\n")
 
 # the row of record 1,024 stands past byte 16,384 and is not read
 slots, rows, checkpoints, lines = face([(2048, 1)] * 1024)
-write("face_long", area(slots), area(rows), area(checkpoints), NAMES + "refused 17\n")
+area_case("long", area(slots), area(rows), area(checkpoints), NAMES + "refused 17\n")
 
 # no files, and two of three
-write("face_missing", None, None, None, "refused 1\n")
-write("face_one_file", area(two[0]), None, None, "refused 1\n")
+area_case("missing", None, None, None, "refused 1\n")
+area_case("one_file", area(two[0]), None, None, "refused 1\n")
 
 
 # ---- listings on standard input
@@ -119,12 +133,13 @@ def refusal(text):
 
 
 def answered(name, text, number, records):
-    """A program's input, and what it prints: the listing of these records, or its refusal."""
-    os.makedirs(f"crates/{name}", exist_ok=True)
-    with open(f"crates/{name}/stdin", "w", newline="") as out:
-        out.write(text)
-    with open(f"crates/{name}/stdout", "w") as out:
-        out.write(f"refused {number}\n" if number else listing(records))
+    """An input, and what is printed of it: the listing of these records, or its refusal. Of a program's own name it is the program's sample."""
+    printed = f"refused {number}\n" if number else listing(records)
+    if "." in name:
+        case(name, ((name, text.encode()),), printed)
+    else:
+        write(f"crates/{name}/stdin", text.encode())
+        write(f"crates/{name}/stdout", printed.encode())
 
 
 def imported(name, text):
@@ -141,23 +156,23 @@ def listing(records):
 imported("face_import", listing([(40, 3), (2048, 1), (2040, 256), (8 * (2**32 - 1), 2**32 - 1)]))
 # as many lines as a listing may have, one more, and far more bytes than the program reads
 many = [(8 * (1 + 7 * i % 300), 1 + 11 * i % 300) for i in range(4096)]
-imported("face_import_full", listing(many[:1024]))
-imported("face_import_over", listing(many[:1025]))
-imported("face_import_long", listing(many))
+imported("full.listing", listing(many[:1024]))
+imported("over.listing", listing(many[:1025]))
+imported("long.listing", listing(many))
 # no records, and no input
-imported("face_import_names", NAMES)
-imported("face_import_empty", "")
+imported("names.listing", NAMES)
+imported("empty.listing", "")
 
 # 18: a zero in front, 2^64, no last line feed; each after a right line
 two = listing([(40, 3), (2048, 1)])
-imported("face_import_zero", two.replace("2 56", "2 056"))
-imported("face_import_wide", two.replace("2 56", f"2 {2**64}"))
-imported("face_import_unended", two[:-1])
+imported("zero.listing", two.replace("2 56", "2 056"))
+imported("wide.listing", two.replace("2 56", f"2 {2**64}"))
+imported("unended.listing", two[:-1])
 # 19 before 20, 20 before append's 11, append's 11, and an empty body, which is 22 before 11
-imported("face_import_number", two.replace("2 56 2048 40 8 1", "3 56 2048 40 16 1"))
-imported("face_import_length", two.replace("2 56 2048 40 8 1", "2 64 2048 40 16 1"))
-imported("face_import_break", two.replace("2 56", "2 64"))
-imported("face_import_blank", two.replace("1 16 40", "1 16 0"))
+imported("number.listing", two.replace("2 56 2048 40 8 1", "3 56 2048 40 16 1"))
+imported("length.listing", two.replace("2 56 2048 40 8 1", "2 64 2048 40 16 1"))
+imported("break.listing", two.replace("2 56", "2 64"))
+imported("blank.listing", two.replace("1 16 40", "1 16 0"))
 
 
 # ---- loads, from a seed and a number of records on standard input
@@ -183,15 +198,17 @@ def loaded(name, text):
 
 # seed 88172645463325252: some records, as many as a load may have, none, and one too many
 loaded("face_load", "88172645463325252\n40\n")
-loaded("face_load_full", "88172645463325252\n1024\n")
-loaded("face_load_none", "88172645463325252\n0\n")
-loaded("face_load_over", "88172645463325252\n1025\n")
+loaded("full.seed", "88172645463325252\n1024\n")
+loaded("none.seed", "88172645463325252\n0\n")
+loaded("over.seed", "88172645463325252\n1025\n")
 # seed 0 before the number of records, and the largest seed
-loaded("face_load_zero", "0\n1025\n")
-loaded("face_load_last", f"{2**64 - 1}\n3\n")
+loaded("zero.seed", "0\n1025\n")
+loaded("last.seed", f"{2**64 - 1}\n3\n")
 
 # 18: 2^64, a zero in front, no last line feed (before seed 0), and a third line feed
-loaded("face_load_wide", f"{2**64}\n40\n")
-loaded("face_load_front", "88172645463325252\n040\n")
-loaded("face_load_unended", "0\n40")
-loaded("face_load_more", "88172645463325252\n40\n\n")
+loaded("wide.seed", f"{2**64}\n40\n")
+loaded("front.seed", "88172645463325252\n040\n")
+loaded("unended.seed", "0\n40")
+loaded("more.seed", "88172645463325252\n40\n\n")
+
+write("crates/face_cases/stdout", "".join(cases).encode())

@@ -1,21 +1,8 @@
-// The listing of a face: its three files read, opened in memory and printed, for the programs face_*.
+// The listing of a face: its three files read, opened in memory and printed, for the programs face_list and face_cases.
 // A missing file counts as empty; bytes past 16,384 are not read.
-ghost use Rattle.io.specs.Counts.{Counts};
+use files::load;
 use libc::STDOUT_FILENO;
 use loc_print::calls::open_text;
-
-// A file's first bytes, as many as the buffer holds at most; the answer is how many.
-fn load(path: &[u8], out: &mut [u8]) -> usize
-    ensures { λ r. ⌜ Counts r (now (out .exit)) ⌝ }
-{
-    let file = os::open_read(path);
-    if file < 0 {
-        return 0;
-    }
-    let n = io::read_full(file, out);
-    libc::close(file);
-    n
-}
 
 fn print_text(slots: &mut [u8], rows: &mut [u8], checkpoints: &mut [u8], text: &mut [u8]) {
     let n = open_text(slots, rows, checkpoints, text);
@@ -27,18 +14,23 @@ fn print_face(slots: &mut [u8], rows: &mut [u8], checkpoints: &mut [u8], text: &
     print_text(slots, rows, checkpoints, text);
 }
 
-pub fn list_face() {
+// The listing of the files at three paths.
+pub fn list_files(slot_path: &[u8], row_path: &[u8], checkpoint_path: &[u8]) {
     let mut slots = [0u8; 16384];
     let mut rows = [0u8; 16384];
     let mut checkpoints = [0u8; 16384];
     let mut text = [0u8; 1031237];
-    let a = load(b"face.loc", &mut slots);
-    let b = load(b"face.loc.ovf", &mut rows);
-    let c = load(b"face.off", &mut checkpoints);
+    let a = load(slot_path, &mut slots);
+    let b = load(row_path, &mut rows);
+    let c = load(checkpoint_path, &mut checkpoints);
     print_face(
         &mut slots[..a],
         &mut rows[..b],
         &mut checkpoints[..c],
         &mut text,
     );
+}
+
+pub fn list_face() {
+    list_files(b"face.loc", b"face.loc.ovf", b"face.off");
 }

@@ -1,4 +1,4 @@
-// A listing from standard input, appended to a fresh index, and the listing of that index, for the programs face_import*.
+// A listing appended to a fresh index, and the listing of that index, for the programs face_import and face_cases.
 // Of the input 129,078 bytes are read: no listing is longer than 129,077, and longer input is refused by its first bytes as the whole is.
 use libc::STDIN_FILENO;
 use libc::STDOUT_FILENO;
@@ -16,13 +16,13 @@ fn print_text(
 }
 
 // Room for 1,024 records, each with a row, and for the longest listing of them: 53 + 1,024 × 126 bytes.
-pub fn import_face() {
+pub fn import_from(file: i32) {
     let mut input = [0u8; 129078];
     let mut slots = [0u8; 2064];
     let mut rows = [0u8; 16400];
     let mut checkpoints = [0u8; 32];
     let mut text = [0u8; 129077];
-    let n = io::read_full(STDIN_FILENO, &mut input);
+    let n = io::read_full(file, &mut input);
     print_text(
         &input[..n],
         &mut slots,
@@ -30,4 +30,9 @@ pub fn import_face() {
         &mut checkpoints,
         &mut text,
     );
+}
+
+// The listing from standard input.
+pub fn import_face() {
+    import_from(STDIN_FILENO);
 }

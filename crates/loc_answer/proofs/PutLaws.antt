@@ -14,7 +14,7 @@ use Rattle.loc_leaf.specs.declared.Kind.the-variants.{Paired, Single}
 use Rattle.loc_leaf.specs.Kind.{withinWindow}
 use Rattle.loc_calls.specs.Table.{wordWidth}
 use Rattle.loc_calls.specs.Reading.{words}
-use Rattle.loc_order.specs.Keys.{places, placeOf, wantedBy}
+use Rattle.loc_order.specs.Keys.{placesFrom, placeOf, wantedBy}
 use Rattle.loc_order.proofs.KeyLaws.{places-at}
 use Rattle.loc_answer.specs.Words.{Has, Put, Summed, sumWords, RunSafe, Agrees, RunPut, SamePast}
 use Rattle.loc_answer.proofs.AnswerLaws.{place-below, put-keeps}
@@ -126,10 +126,10 @@ pub put-past : (w p n : ℕ) (old mid new ws : List ℕ) → p < n → SamePast 
 put-past w p n old mid new ws h s u y g = u .above y (omega (arith, place-below w p n h)) ∙ s y g
 
 -- place p of a list that is taken in its own order
-pub own-place : (n p : ℕ) → n ≤ 1024 → p < n → p ≡ placeOf (getD (places 0 n) p 0)
+pub own-place : (n p : ℕ) → n ≤ 1024 → p < n → p ≡ placeOf (getD (placesFrom 0 n) p 0)
 own-place n p h g = sym (places-at n p h g)
 
-pub own-wanted : (ids : List ℕ) (n p j : ℕ) → n ≤ 1024 → p < n → j ≡ withinWindow (getD ids p 0) → j ≡ withinWindow (wantedBy ids (places 0 n) p)
+pub own-wanted : (ids : List ℕ) (n p j : ℕ) → n ≤ 1024 → p < n → j ≡ withinWindow (getD ids p 0) → j ≡ withinWindow (wantedBy ids (placesFrom 0 n) p)
 own-wanted ids n p j h g e = e ∙ ap (λ (q : ℕ). withinWindow (getD ids q 0)) (own-place n p h g)
 
 -- ---- a copy of words

@@ -5,7 +5,7 @@ ghost use mathlib.Core.List.{_++_};
 ghost use Prim.Native.Nat.{_*_, _≤_};
 ghost use lib.ListN.{length, take, drop};
 ghost use Rattle.loc_calls.specs.Table.{wordWidth};
-ghost use Rattle.loc_order.specs.Keys.{places};
+ghost use Rattle.loc_order.specs.Keys.{placesFrom};
 ghost use Rattle.loc_answer.specs.Words.{AllSome, RunSafe, RunPut, SamePast};
 use crate::words::put_words;
 use loc_leaf::Kind;
@@ -47,8 +47,8 @@ pub fn put_window(
     span: &[u64],
     out: &mut [u64],
 )
-    requires { ⌜ (length (now wanted) ≤ 1024) × AllSome (now wanted) × RunSafe kind (now wanted) (places 0 (length (now wanted))) 0 (length (now wanted)) (now body) (now span) (now out) ⌝ }
-    ensures { λ _. ⌜ RunPut kind (now (wanted .entry)) (places 0 (length (now (wanted .entry)))) 0 (length (now (wanted .entry))) «body_end» «span_end» (now (body .entry)) (now (span .entry)) (now (out .entry)) (now (out .exit))
+    requires { ⌜ (length (now wanted) ≤ 1024) × AllSome (now wanted) × RunSafe kind (now wanted) (placesFrom 0 (length (now wanted))) 0 (length (now wanted)) (now body) (now span) (now out) ⌝ }
+    ensures { λ _. ⌜ RunPut kind (now (wanted .entry)) (placesFrom 0 (length (now (wanted .entry)))) 0 (length (now (wanted .entry))) «body_end» «span_end» (now (body .entry)) (now (span .entry)) (now (out .entry)) (now (out .exit))
         × SamePast (wordWidth kind * length (now (wanted .entry))) (now (out .entry)) (now (out .exit)) ⌝ }
 {
     let mut p: usize = 0;

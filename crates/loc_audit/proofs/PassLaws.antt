@@ -24,7 +24,7 @@ use Rattle.loc_leaf.specs.Rows.{rowValue, hasRow, rowList, lookup, slotValue, a
 use Rattle.loc_leaf.proofs.Booleans.{is?}
 use Rattle.loc_calls.specs.Areas.{Areas, areas, count}
 use Rattle.loc_calls.specs.Reading.{sumAfter, allAfter, lookupAt, has, valueAt, stridesAfter, spansAfter, windowEnd}
-use Rattle.loc_calls.specs.Audit.{bodySum, spanSum, bothEnds, checkpointSound, rowFits, rowWanted, rowsSound, sound}
+use Rattle.loc_calls.specs.Audit.{bodyEndAfter, spanEndAfter, bothEnds, checkpointSound, rowFits, rowWanted, rowsSound, sound}
 use Rattle.loc_rows.specs.declared.Row.{Row}
 use Rattle.loc_rows.specs.Reader.{rowAt, rowsFrom}
 use Rattle.loc_rows.proofs.ReaderLaws.{rows-lent}
@@ -76,20 +76,20 @@ module _ (k : Kind) (a : Areas) where
   allSound = allAfter (checkpointSound k a) 0 (fill (checkpointWidth k) (a .checkpoints))
 
   abbrev bothBelow : Bool
-  bothBelow = bothEnds k (ltb (bodySum k a (count a)) (2 ^ 64)) (ltb (spanSum k a (count a)) (2 ^ 64))
+  bothBelow = bothEnds k (ltb (bodyEndAfter k a (count a)) (2 ^ 64)) (ltb (spanEndAfter k a (count a)) (2 ^ 64))
 
   abbrev allWanted : Bool
   allWanted = rowsSound k a (rowList k (a .rows))
 
-  body-grows : (n m : ℕ) → n ≤ m → bodySum k a n ≤ bodySum k a m
-  unfolding bodySum stridesAfter
+  body-grows : (n m : ℕ) → n ≤ m → bodyEndAfter k a n ≤ bodyEndAfter k a m
+  unfolding bodyEndAfter stridesAfter
   body-grows n m h =
       let q : n + (m - n) ≡ m = omega arith in
       subst (λ (i : ℕ). 16 + 8 * sumAfter (λ j. (valueAt k a j) .strides) 0 n ≤ 16 + 8 * sumAfter (λ j. (valueAt k a j) .strides) 0 i) q
       (omega (arith, sum-grows (λ j. (valueAt k a j) .strides) 0 n (m - n)))
 
-  span-grows : (n m : ℕ) → n ≤ m → spanSum k a n ≤ spanSum k a m
-  unfolding spanSum spansAfter
+  span-grows : (n m : ℕ) → n ≤ m → spanEndAfter k a n ≤ spanEndAfter k a m
+  unfolding spanEndAfter spansAfter
   span-grows n m h =
       let q : n + (m - n) ≡ m = omega arith in
       subst (λ (i : ℕ). 16 + 8 * sumAfter (λ j. (valueAt k a j) .spans) 0 n ≤ 16 + 8 * sumAfter (λ j. (valueAt k a j) .spans) 0 i) q
@@ -100,23 +100,23 @@ module _ (k : Kind) (a : Areas) where
     unfolding sound has
     unsound-row e = rw (all-fails (λ i. has (lookupAt k a i)) (count a) n h (ap has e)) refl
 
-    unsound-body : 2 ^ 64 ≤ bodySum k a (suc n) → sound k a ≡ false
+    unsound-body : 2 ^ 64 ≤ bodyEndAfter k a (suc n) → sound k a ≡ false
     unfolding sound
-    unsound-body g = fails-third allHave allSound bothBelow allWanted (ends k (ltb (bodySum k a (count a)) (2 ^ 64)) (ltb (spanSum k a (count a)) (2 ^ 64)) past)
+    unsound-body g = fails-third allHave allSound bothBelow allWanted (ends k (ltb (bodyEndAfter k a (count a)) (2 ^ 64)) (ltb (spanEndAfter k a (count a)) (2 ^ 64)) past)
       where
-        past : ltb (bodySum k a (count a)) (2 ^ 64) ≡ false
-        past = le-ltb (bodySum k a (count a)) (2 ^ 64) (omega (arith, body-grows (suc n) (count a) h))
+        past : ltb (bodyEndAfter k a (count a)) (2 ^ 64) ≡ false
+        past = le-ltb (bodyEndAfter k a (count a)) (2 ^ 64) (omega (arith, body-grows (suc n) (count a) h))
 
         ends : (j : Kind) (x y : Bool) → x ≡ false → bothEnds j x y ≡ false
         ends Paired x y e = rw e refl
         ends Single x y e = e
 
-    unsound-span : k ≡ Paired → 2 ^ 64 ≤ spanSum k a (suc n) → sound k a ≡ false
+    unsound-span : k ≡ Paired → 2 ^ 64 ≤ spanEndAfter k a (suc n) → sound k a ≡ false
     unfolding sound
-    unsound-span p g = fails-third allHave allSound bothBelow allWanted (ends k p (ltb (bodySum k a (count a)) (2 ^ 64)) (ltb (spanSum k a (count a)) (2 ^ 64)) past)
+    unsound-span p g = fails-third allHave allSound bothBelow allWanted (ends k p (ltb (bodyEndAfter k a (count a)) (2 ^ 64)) (ltb (spanEndAfter k a (count a)) (2 ^ 64)) past)
       where
-        past : ltb (spanSum k a (count a)) (2 ^ 64) ≡ false
-        past = le-ltb (spanSum k a (count a)) (2 ^ 64) (omega (arith, span-grows (suc n) (count a) h))
+        past : ltb (spanEndAfter k a (count a)) (2 ^ 64) ≡ false
+        past = le-ltb (spanEndAfter k a (count a)) (2 ^ 64) (omega (arith, span-grows (suc n) (count a) h))
 
         ends : (j : Kind) → j ≡ Paired → (x y : Bool) → y ≡ false → bothEnds j x y ≡ false
         ends Paired q x y e = rw e (and-false x)
@@ -144,12 +144,12 @@ single-spans a id v e = go (is? (needsRow Single (slotAt (a .slots) id))) (is? (
     go (inr t) _ = cc
 
 module _ (k : Kind) (a : Areas) (n : ℕ) (v : Value) (e : lookupAt k a (suc n) ≡ Found v) where
-  body-more : bodySum k a (suc n) ≡ bodySum k a n + 8 * v .strides
-  unfolding bodySum stridesAfter sumAfter valueAt valueIn
+  body-more : bodyEndAfter k a (suc n) ≡ bodyEndAfter k a n + 8 * v .strides
+  unfolding bodyEndAfter stridesAfter sumAfter valueAt valueIn
   body-more = rw (zero-add (suc n), e) (omega arith)
 
-  span-more : spanSum k a (suc n) ≡ spanSum k a n + 8 * v .spans
-  unfolding spanSum spansAfter sumAfter valueAt valueIn
+  span-more : spanEndAfter k a (suc n) ≡ spanEndAfter k a n + 8 * v .spans
+  unfolding spanEndAfter spansAfter sumAfter valueAt valueIn
   span-more = rw (zero-add (suc n), e) (omega arith)
 
 -- ---- the pass
@@ -158,8 +158,8 @@ module _ (k : Kind) (a : Areas) (n : ℕ) (v : Value) (e : lookupAt k a (suc n) 
 pub record Passed (k : Kind) (a : Areas) (xs : Bytes) (n : ℕ) (e : Ends) : Type 0 where
   pub complete : allAfter (λ i. has (lookupAt k a i)) 0 n ≡ true
   pub checked : allAfter (checkpointSound k a) 0 (n / 1024) ≡ true
-  pub isBody : e .body ≡ bodySum k a n
-  pub isSpan : e .span ≡ spanSum k a n
+  pub isBody : e .body ≡ bodyEndAfter k a n
+  pub isSpan : e .span ≡ spanEndAfter k a n
   pub bodyLow : e .body < 2 ^ 64
   pub spanLow : e .span < 2 ^ 64
   pub at : ℕ
@@ -174,7 +174,7 @@ Stepped k a xs n Unsound = sound k a ≡ false
 
 pub pass-begins : (k : Kind) (a : Areas) (end : ℕ) → Auditable k a → end ≡ counted (a .rows) → end ≤ length (a .rows)
     → (row : Row) → row ≡ rowAt (rowWidth k) (take end (a .rows)) 16 → Passed k a (take end (a .rows)) 0 (record { body = 16; span = 16; row = row })
-unfolding allAfter bodySum spanSum stridesAfter spansAfter sumAfter
+unfolding allAfter bodyEndAfter spanEndAfter stridesAfter spansAfter sumAfter
 pass-begins k a end g e h row er =
     record {
       complete = refl;
@@ -213,7 +213,7 @@ pass-ends k a xs n e g q w =
     both Single = refl
 
 -- a checkpoint is sound where it says the ends after its record
-checkpoint-is : (k : Kind) (a : Areas) (w : ℕ) (e : Ends) → e .body ≡ bodySum k a (1024 * suc w) → e .span ≡ spanSum k a (1024 * suc w) → 1024 * suc w ≤ count a
+checkpoint-is : (k : Kind) (a : Areas) (w : ℕ) (e : Ends) → e .body ≡ bodyEndAfter k a (1024 * suc w) → e .span ≡ spanEndAfter k a (1024 * suc w) → 1024 * suc w ≤ count a
     → checkpointSound k a (suc w) ≡ checkpointIs k (a .checkpoints) (suc w) e
 unfolding checkpointSound windowEnd checkpointIs
 checkpoint-is k a w e eb es h = rw (le-leb (1024 * suc w) (count a) h, eb, es) refl
@@ -244,10 +244,10 @@ module _ (k : Kind) (a : Areas) (xs : Bytes) (n : ℕ) (e : Ends) (g : Auditable
     abbrev after : Ends
     after = record { body = e .body + 8 * v .strides; span = e .span + 8 * v .spans; row = next }
 
-    body-is : e .body + 8 * v .strides ≡ bodySum k a (suc n)
+    body-is : e .body + 8 * v .strides ≡ bodyEndAfter k a (suc n)
     body-is = omega (arith, w .isBody, body-more k a n v found)
 
-    span-is : e .span + 8 * v .spans ≡ spanSum k a (suc n)
+    span-is : e .span + 8 * v .spans ≡ spanEndAfter k a (suc n)
     span-is = omega (arith, w .isSpan, span-more k a n v found)
 
     -- the checkpoints up to this record

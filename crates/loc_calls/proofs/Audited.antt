@@ -25,7 +25,7 @@ use Rattle.loc_calls.specs.Areas.{Areas}
 use Rattle.loc_calls.specs.Table.{Entry, valueOf}
 use Rattle.loc_calls.specs.Stores.{gather, rowOf}
 use Rattle.loc_calls.specs.Reading.{windowEnd, within}
-use Rattle.loc_calls.specs.Audit.{bodySum, spanSum, bothEnds, checkpointSound, byteFits, rowFits, rowWanted, rowSound, rowsSound, sound}
+use Rattle.loc_calls.specs.Audit.{bodyEndAfter, spanEndAfter, bothEnds, checkpointSound, byteFits, rowFits, rowWanted, rowSound, rowsSound, sound}
 use Rattle.loc_calls.specs.Calls.{audit}
 use Rattle.loc_calls.proofs.Gathered.{AllValid, valid-at}
 use Rattle.loc_calls.proofs.State.{count-is, few, slot-at, checkpoint-fill}
@@ -37,12 +37,12 @@ use Rattle.loc_calls.proofs.Reading.{rows-are, all-are, all-there, stri
 -- ---- sums
 
 module _ (k : Kind) (a : Areas) (E : List Entry) (s : Full k a E) (n : ℕ) (h : n ≤ length E) where
-  body-sum : bodySum k a n ≡ 16 + lens (take n E)
-  unfolding bodySum lens
+  body-sum : bodyEndAfter k a n ≡ 16 + lens (take n E)
+  unfolding bodyEndAfter lens
   body-sum = omega (arith, strides-sum k a E s 0 n (omega arith), ap (λ (i : ℕ). lens (take i E)) (zero-add n))
 
-  span-sum : spanSum k a n ≡ 16 + 8 * spans (take n E)
-  unfolding spanSum spans
+  span-sum : spanEndAfter k a n ≡ 16 + 8 * spans (take n E)
+  unfolding spanEndAfter spans
   span-sum = omega (arith, spans-sum k a E s 0 n (omega arith), ap (λ (i : ℕ). spans (take i E)) (zero-add n))
 
 -- ---- rows
@@ -126,10 +126,10 @@ both Paired x y p q = rw (p, q refl) refl
 both Single x y p q = p
 
 module _ (k : Kind) (a : Areas) (E : List Entry) (s : Full k a E) (g : Good E) where
-  span-ends : (w : ℕ) → 1024 * w ≤ length E → k ≡ Paired → windowEnd k a 8 w ≡ spanSum k a (1024 * w)
+  span-ends : (w : ℕ) → 1024 * w ≤ length E → k ≡ Paired → windowEnd k a 8 w ≡ spanEndAfter k a (1024 * w)
   span-ends w h p = go k p s
     where
-      go : (k : Kind) → k ≡ Paired → Full k a E → windowEnd k a 8 w ≡ spanSum k a (1024 * w)
+      go : (k : Kind) → k ≡ Paired → Full k a E → windowEnd k a 8 w ≡ spanEndAfter k a (1024 * w)
       go Paired p s = span-window a E s g w h ∙ sym (span-sum Paired a E s (1024 * w) h)
       go Single p s = cc
 
@@ -138,14 +138,14 @@ module _ (k : Kind) (a : Areas) (E : List Entry) (s : Full k a E) (g : Good E) w
   checkpoint-sound w h =
       rw (count-is k a E _ _ s, le-leb (1024 * w) (length E) h)
       (both k _ _
-      (eq-eqb (windowEnd k a 0 w) (bodySum k a (1024 * w)) (body-window k a E s g w h ∙ sym (body-sum k a E s (1024 * w) h)))
-      (λ p. eq-eqb (windowEnd k a 8 w) (spanSum k a (1024 * w)) (span-ends w h p)))
+      (eq-eqb (windowEnd k a 0 w) (bodyEndAfter k a (1024 * w)) (body-window k a E s g w h ∙ sym (body-sum k a E s (1024 * w) h)))
+      (λ p. eq-eqb (windowEnd k a 8 w) (spanEndAfter k a (1024 * w)) (span-ends w h p)))
 
-  ends-below : bothEnds k (ltb (bodySum k a (length E)) (2 ^ 64)) (ltb (spanSum k a (length E)) (2 ^ 64)) ≡ true
+  ends-below : bothEnds k (ltb (bodyEndAfter k a (length E)) (2 ^ 64)) (ltb (spanEndAfter k a (length E)) (2 ^ 64)) ≡ true
   ends-below =
       both k _ _
-      (lt-ltb (bodySum k a (length E)) (2 ^ 64) (omega (arith, body-sum k a E s (length E) (omega arith), ap lens (take-length E), g .body)))
-      (λ _. lt-ltb (spanSum k a (length E)) (2 ^ 64) (omega (arith, span-sum k a E s (length E) (omega arith), ap spans (take-length E), g .span)))
+      (lt-ltb (bodyEndAfter k a (length E)) (2 ^ 64) (omega (arith, body-sum k a E s (length E) (omega arith), ap lens (take-length E), g .body)))
+      (λ _. lt-ltb (spanEndAfter k a (length E)) (2 ^ 64) (omega (arith, span-sum k a E s (length E) (omega arith), ap spans (take-length E), g .span)))
 
   pub is-sound : sound k a ≡ true
   unfolding sound

@@ -20,7 +20,7 @@ use Rattle.loc_calls.specs.Areas.{Three, each, Areas, sizes, count}
 use Rattle.loc_calls.specs.Table.{valueOf, bodyAfter, spanAfter, Call, opening, append, truncate, read, zipped, entries, uneven, spanless, breaks, entryRefusal, entriesRefusal, startRefusal, endPast, batchRefusal, table}
 use Rattle.loc_calls.specs.Stores.{step, run, differing, truncatePlaces, nextRow, holdsNext, cutRule, ruledCount, ruled, openPlaces, ragged, openRefusal, stores, anyStores, settled, checkpoint, gather, rowOf, checkpointOf, staged, newEnd, newEnds, appendPlaces}
 use Rattle.loc_calls.specs.Reading.{sumAfter, allAfter, firstAfter, lookupAt, has, valueAt, stridesAfter, spansAfter, checkpointAt, windowEnd, lookedAt, within, rowMissing, anyMissing, words, wordsFor, answered, found, bodyRead, spanRead, endRead}
-use Rattle.loc_calls.specs.Audit.{bodySum, spanSum, checkpointSound, rowFits, rowWanted, rowSound, rowsSound, sound}
+use Rattle.loc_calls.specs.Audit.{bodyEndAfter, spanEndAfter, checkpointSound, rowFits, rowWanted, rowSound, rowsSound, sound}
 use Rattle.loc_calls.specs.Calls.{unlessRefused, tooSmall, wholeRefusal, unread, isOpening, refusal, places, placeCount, value, lent, buffer, areasAfter, call, createPlaces, create, audit}
 use Rattle.loc_calls.specs.SpanAt.{holds, refusedBy, crossing, spanAmong, spanAt}
 
@@ -266,7 +266,7 @@ pub record Computed : Type 0 where
   locates-plain : crossing (wordsFor Paired high) (2 ^ 64 - 1) 1025 ≡ located 1025 1 0
 
 pub computed : Computed
-unfolding number bytes numberAt store answer counted storeLength storePast pieces fill published stridesRefusal slot needsRow inline slotAt checkpointRule row rowNumber rowValue rowList ascending lastNumber rowsUpTo rowFor hasRow lookup slotValue matches cuts cutFor sizes count valueOf bodyAfter spanAfter zipped entries uneven spanless breaks entryRefusal entriesRefusal startRefusal endPast batchRefusal table step run differing truncatePlaces nextRow holdsNext cutRule ruledCount ruled openPlaces ragged openRefusal stores anyStores settled checkpoint gather rowOf checkpointOf staged newEnd newEnds appendPlaces sumAfter allAfter lookupAt has valueIn valueAt stridesAfter spansAfter checkpointAt windowEnd lookedAt within rowMissing anyMissing words wordsFor answered found bodyRead spanRead endRead bodySum spanSum checkpointSound rowFits rowWanted rowSound rowsSound sound unlessRefused tooSmall unread isOpening refusal places value lent buffer areasAfter call createPlaces create audit flatten firstAfter wholeRefusal holds crossing spanAmong spanAt
+unfolding number bytes numberAt store answer counted storeLength storePast pieces fill published stridesRefusal slot needsRow inline slotAt checkpointRule row rowNumber rowValue rowList ascending lastNumber rowsUpTo rowFor hasRow lookup slotValue matches cuts cutFor sizes count valueOf bodyAfter spanAfter zipped entries uneven spanless breaks entryRefusal entriesRefusal startRefusal endPast batchRefusal table step run differing truncatePlaces nextRow holdsNext cutRule ruledCount ruled openPlaces ragged openRefusal stores anyStores settled checkpoint gather rowOf checkpointOf staged newEnd newEnds appendPlaces sumAfter allAfter lookupAt has valueIn valueAt stridesAfter spansAfter checkpointAt windowEnd lookedAt within rowMissing anyMissing words wordsFor answered found bodyRead spanRead endRead bodyEndAfter spanEndAfter checkpointSound rowFits rowWanted rowSound rowsSound sound unlessRefused tooSmall unread isOpening refusal places value lent buffer areasAfter call createPlaces create audit flatten firstAfter wholeRefusal holds crossing spanAmong spanAt
 computed = record {
   refusals = refl;
   ordered = refl;

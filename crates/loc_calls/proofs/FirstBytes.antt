@@ -22,7 +22,7 @@ use Rattle.loc_calls.specs.Areas.{Three, each, Areas, sizes, count}
 use Rattle.loc_calls.specs.Table.{Call, opening, append, truncate, read}
 use Rattle.loc_calls.specs.Stores.{Place, keep, slotLength, rowLength, checkpointLength, write, step, run, differing, truncatePlaces, nextRow, holdsNext, cutRule, ruledCount, ruled, openPlaces, ragged, openRefusal, settled, newEnd, newEnds, appendPlaces}
 use Rattle.loc_calls.specs.Reading.{lookupAt, valueAt, stridesAfter, spansAfter, checkpointAt, windowEnd, rowMissing, anyMissing, wordsFor, bodyRead, spanRead, endRead}
-use Rattle.loc_calls.specs.Audit.{bodySum, spanSum, checkpointSound, rowSound, rowsSound, sound}
+use Rattle.loc_calls.specs.Audit.{bodyEndAfter, spanEndAfter, checkpointSound, rowSound, rowsSound, sound}
 use Rattle.loc_calls.specs.SpanAt.{spanAmong, spanAt, spanAtOutcome}
 use Rattle.loc_calls.specs.Calls.{unlessRefused, tooSmall, firstRefusal, wholeRefusal, unread, refusal, places, buffer, areasAfter, call, createPlaces, create, audit}
 use Rattle.loc_calls.specs.Guarantees.{AnyCall, indexCall, creation, auditing, locating, outcome, SameFrom8, SameOutcome, Unread, FirstBytesUnread, Unwritten, FirstBytesUnwritten}
@@ -223,7 +223,7 @@ module _ (k : Kind) {a b : Areas} (h : Parts a b) where
   end-read-same = rw (span-read-same k refl, count-same k h, lookup-same, window-same) refl
 
   checkpointSound-same : checkpointSound k a ≡ checkpointSound k b
-  unfolding checkpointSound bodySum spanSum stridesAfter spansAfter valueAt
+  unfolding checkpointSound bodyEndAfter spanEndAfter stridesAfter spansAfter valueAt
   checkpointSound-same = fun-ext (λ w. rw (count-same k h, lookup-same, window-same) refl)
 
   rowsSound-same : (rs : List Bytes) → rowsSound k a rs ≡ rowsSound k b rs
@@ -232,7 +232,7 @@ module _ (k : Kind) {a b : Areas} (h : Parts a b) where
   rowsSound-same (r ∷ rs) = rw (count-same k h, slot-same (h .slots), rowsSound-same rs) refl
 
   sound-same : sound k a ≡ sound k b
-  unfolding sound bodySum spanSum stridesAfter spansAfter valueAt fill
+  unfolding sound bodyEndAfter spanEndAfter stridesAfter spansAfter valueAt fill
   sound-same = rw (count-same k h, lookup-same, checkpointSound-same, counted-same (h .checkpoints), rows-same k h, rowsSound-same (rowList k (b .rows))) refl
 
   -- ---- calls

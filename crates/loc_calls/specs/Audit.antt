@@ -18,11 +18,11 @@ use Rattle.loc_calls.specs.Reading.{allAfter, complete, stridesAfter, sp
 -- ---- sums and checkpoints
 
 -- the plain sums of the lengths of the first n records, from 16 on
-unfoldable pub bodySum : Kind → Areas → ℕ → ℕ
-bodySum k a n = 16 + 8 * stridesAfter k a 0 n
+unfoldable pub bodyEndAfter : Kind → Areas → ℕ → ℕ
+bodyEndAfter k a n = 16 + 8 * stridesAfter k a 0 n
 
-unfoldable pub spanSum : Kind → Areas → ℕ → ℕ
-spanSum k a n = 16 + 8 * spansAfter k a 0 n
+unfoldable pub spanEndAfter : Kind → Areas → ℕ → ℕ
+spanEndAfter k a n = 16 + 8 * spansAfter k a 0 n
 
 -- a test of body and span where paired, of the body where single
 abbrev pub bothEnds : Kind → Bool → Bool → Bool
@@ -33,7 +33,7 @@ bothEnds Single body span = body
 unfoldable pub checkpointSound : Kind → Areas → ℕ → Bool
 checkpointSound k a w =
     leb (1024 * w) (count a)
-    && bothEnds k (eqb (windowEnd k a 0 w) (bodySum k a (1024 * w))) (eqb (windowEnd k a 8 w) (spanSum k a (1024 * w)))
+    && bothEnds k (eqb (windowEnd k a 0 w) (bodyEndAfter k a (1024 * w))) (eqb (windowEnd k a 8 w) (spanEndAfter k a (1024 * w)))
 
 -- ---- published rows
 
@@ -66,5 +66,5 @@ unfoldable pub sound : Kind → Areas → Bool
 sound k a =
     complete k a 0 (count a)
     && allAfter (checkpointSound k a) 0 (fill (checkpointWidth k) (a .checkpoints))
-    && bothEnds k (ltb (bodySum k a (count a)) (2 ^ 64)) (ltb (spanSum k a (count a)) (2 ^ 64))
+    && bothEnds k (ltb (bodyEndAfter k a (count a)) (2 ^ 64)) (ltb (spanEndAfter k a (count a)) (2 ^ 64))
     && rowsSound k a (rowList k (a .rows))

@@ -48,8 +48,8 @@ kept9 x y n = cutFor Paired (replicate 32 1 ++ (x ∷ y ∷ [])) n 4 (row Paired
 unfoldable pub kept1 : ℕ
 kept1 = cutFor Paired (replicate 16 1 ++ (0 ∷ 5 ∷ [])) 20 0 (row Paired 1 (of 300 5))
 
-unfoldable pub table : List Bool
-table =
+unfoldable pub starredCases : List Bool
+starredCases =
     inlineAs Paired (of 255 255) 255 255
     ∷ rowAs Paired (of 256 1) 0 1
     ∷ rowAs Paired (of 1 256) 1 0
@@ -66,4 +66,4 @@ every [] = true
 every (b ∷ bs) = b && every bs
 
 unfoldable pub Starred : Type 0
-Starred = every table ≡ true
+Starred = every starredCases ≡ true

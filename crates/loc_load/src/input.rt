@@ -3,6 +3,10 @@
 ghost use mathlib.Core.Path.{_≡_};
 ghost use Rattle.loc_load.specs.Request.{refusedBy, requested};
 use crate::Request;
+use loc_leaf::refusal::ACCEPTED;
+use loc_leaf::refusal::LISTING_MALFORMED;
+use loc_leaf::refusal::SEED_ZERO;
+use loc_leaf::refusal::TOO_MANY_RECORDS;
 use loc_number::Number;
 use loc_number::number_at;
 
@@ -22,23 +26,23 @@ pub fn read_request(input: &[u8]) -> Request
 {
     let first = number_at(input, 0, b'\n', 0xffff_ffff_ffff_ffff);
     let Number::Known(seed, at) = first else {
-        return refused(18);
+        return refused(LISTING_MALFORMED);
     };
     let second = number_at(input, at, b'\n', 0xffff_ffff_ffff_ffff);
     let Number::Known(records, end) = second else {
-        return refused(18);
+        return refused(LISTING_MALFORMED);
     };
     if end != input.len() {
-        return refused(18);
+        return refused(LISTING_MALFORMED);
     }
     if seed == 0 {
-        return refused(25);
+        return refused(SEED_ZERO);
     }
     if 1024 < records {
-        return refused(26);
+        return refused(TOO_MANY_RECORDS);
     }
     Request {
-        number: 0,
+        number: ACCEPTED,
         seed,
         records,
     }

@@ -4,6 +4,9 @@ ghost use mathlib.Core.Path.{_≡_};
 ghost use Rattle.loc_parse.specs.Lines.{lineAt, LineTold, fieldsRefusal};
 use crate::Fields;
 use crate::Line;
+use loc_leaf::refusal::ACCEPTED;
+use loc_leaf::refusal::LISTING_NUMBER;
+use loc_leaf::refusal::LISTING_SPAN_LEN;
 use loc_number::Number;
 use loc_number::number_at;
 
@@ -51,10 +54,10 @@ pub fn fields_refusal(id: u64, f: Fields) -> u64
     ensures { λ r. ⌜ r ≡ fieldsRefusal id f ⌝ }
 {
     if f.number != id {
-        return 19;
+        return LISTING_NUMBER;
     }
     if f.span_len != 8 * f.spans as u64 {
-        return 20;
+        return LISTING_SPAN_LEN;
     }
-    0
+    ACCEPTED
 }

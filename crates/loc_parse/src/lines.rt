@@ -7,6 +7,8 @@ use crate::Line;
 use crate::Taken;
 use crate::form::fields_refusal;
 use crate::form::line_at;
+use loc_leaf::refusal::ACCEPTED;
+use loc_leaf::refusal::LISTING_MALFORMED;
 use loc_listing::names::has_names;
 
 // From the place 53 on, of records numbered from `first` on; at most 1,024 lines.
@@ -25,13 +27,16 @@ fn take_lines(
     let mut i: usize = 0;
     while at < text.len() {
         if i == 1024 {
-            return Taken { number: 18, n: i };
+            return Taken {
+                number: LISTING_MALFORMED,
+                n: i,
+            };
         }
         let line = line_at(text, at);
         match line {
             Line::Whole(f, next) => {
                 let number = fields_refusal(first + i as u64, f);
-                if number != 0 {
+                if number != ACCEPTED {
                     return Taken { number, n: i };
                 }
                 starts[i] = f.start;
@@ -42,11 +47,17 @@ fn take_lines(
                 i += 1;
             }
             Line::Broken => {
-                return Taken { number: 18, n: i };
+                return Taken {
+                    number: LISTING_MALFORMED,
+                    n: i,
+                };
             }
         }
     }
-    Taken { number: 0, n: i }
+    Taken {
+        number: ACCEPTED,
+        n: i,
+    }
 }
 
 // A whole text for an index of `count` records: 18, 19 or 20, or 0 and the batch in the first places of the lists.
@@ -64,5 +75,8 @@ pub fn parse(
     if has_names(text) {
         return take_lines(text, count + 1, starts, lens, span_starts, span_counts);
     }
-    Taken { number: 18, n: 0 }
+    Taken {
+        number: LISTING_MALFORMED,
+        n: 0,
+    }
 }

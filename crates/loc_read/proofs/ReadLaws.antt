@@ -23,7 +23,7 @@ use Rattle.loc_calls.specs.Calls.{firstRefusal, unread, isOpening, refusal, cal
 use Rattle.loc_calls.specs.Promises.{Read}
 use Rattle.loc_calls.proofs.Outcomes.{read-refused, read-accepted, refusal-after}
 use Rattle.loc_order.specs.Order.{All}
-use Rattle.loc_order.specs.Keys.{places, KeyOf}
+use Rattle.loc_order.specs.Keys.{placesFrom, KeyOf}
 use Rattle.loc_order.proofs.KeyLaws.{places-length, found-all}
 use Rattle.loc_answer.specs.Words.{SamePast}
 use Rattle.loc_answer.proofs.AnswerLaws.{answered-is}
@@ -84,11 +84,11 @@ module _ (k : Kind) (a : Areas) (ids out : List ℕ) where
           (answered-is k a ids stage out new (rw (← ew) long) (f .answered z) (rw (← ew) en))
 
     -- answers that went straight into the buffer
-    pub read-own : (n : ℕ) (new : List ℕ) → n ≡ fill 2 (a .slots) → All (KeyOf n ids) (places 0 (length ids)) → Finished k a ids new 0 → length new ≡ length out
+    pub read-own : (n : ℕ) (new : List ℕ) → n ≡ fill 2 (a .slots) → All (KeyOf n ids) (placesFrom 0 (length ids)) → Finished k a ids new 0 → length new ≡ length out
         → SamePast (wordWidth k * length ids) out new → Read (call k 0 (read ids out) a) (record { number = 0; value = length ids }) new
     read-own n new en ks f long same =
         read-done 0 new f (wordWidth k) n (length ids) new refl refl (omega (arith, t .room)) en
-        (sym (found-all n ids (λ p h. ap (within n) (sym (own-number ids (t .few) p h)) ∙ key-within n ids (places 0 (length ids)) ks p (omega (arith, places-length 0 (length ids))))))
+        (sym (found-all n ids (λ p h. ap (within n) (sym (own-number ids (t .few) p h)) ∙ key-within n ids (placesFrom 0 (length ids)) ks p (omega (arith, places-length 0 (length ids))))))
         (straight (wordWidth k * length ids) out new long same)
 
 -- what the walk asks

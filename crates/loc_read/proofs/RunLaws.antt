@@ -18,7 +18,7 @@ use Rattle.loc_leaf.specs.Kind.{windowOf, withinWindow}
 use Rattle.loc_leaf.proofs.Booleans.{both-left, both-right}
 use Rattle.loc_calls.specs.Reading.{before, lookedAt, within}
 use Rattle.loc_order.specs.Order.{All}
-use Rattle.loc_order.specs.Keys.{places, placeOf, wantedBy, KeyOf}
+use Rattle.loc_order.specs.Keys.{placesFrom, placeOf, wantedBy, KeyOf}
 use Rattle.loc_order.proofs.OrderLaws.{all-at, all-of}
 use Rattle.loc_order.proofs.KeyLaws.{places-length, places-at}
 use Rattle.loc_answer.specs.Words.{AllSome}
@@ -210,7 +210,7 @@ within-next n ids p id e w f q h =
     (eq-or-lt-of-le (omega arith))
 
 module _ (ids : List ℕ) (few : length ids ≤ 1024) where
-  pub own-number : (t : ℕ) → t < length ids → wantedBy ids (places 0 (length ids)) t ≡ getD ids t 0
+  pub own-number : (t : ℕ) → t < length ids → wantedBy ids (placesFrom 0 (length ids)) t ≡ getD ids t 0
   own-number t h = ap (λ (p : ℕ). getD ids p 0) (places-at (length ids) t few h)
 
 pub one-count : (k : Kind) (n n′ : ℕ) (ids : List ℕ) (m : ℕ) (mark : List ℕ) → n ≡ n′ → OneRun k n ids m mark → OneRun k n′ ids m mark
@@ -219,15 +219,15 @@ one-count k n n′ ids m mark e o = subst (λ (i : ℕ). OneRun k i ids m mark) 
 -- no number of it is 0
 pub own-some : (k : Kind) (n : ℕ) (ids : List ℕ) (m : ℕ) (mark : List ℕ) → length ids ≤ 1024 → OneRun k n ids m mark → AllSome ids
 own-some k n ids m mark few o p h =
-    rw (← own-number ids few p h) (key-some n ids (places 0 (length ids)) (o .keys) p (omega (arith, places-length 0 (length ids))) _ refl)
+    rw (← own-number ids few p h) (key-some n ids (placesFrom 0 (length ids)) (o .keys) p (omega (arith, places-length 0 (length ids))) _ refl)
 
 -- its window's begin
-pub own-first : (k : Kind) (n : ℕ) (ids : List ℕ) (m : ℕ) (mark : List ℕ) → length ids ≤ 1024 → OneRun k n ids m mark → (w : ℕ) → w ≡ windowOf (getD ids 0 0) → w ≡ windowOf (wantedBy ids (places 0 (length ids)) 0)
+pub own-first : (k : Kind) (n : ℕ) (ids : List ℕ) (m : ℕ) (mark : List ℕ) → length ids ≤ 1024 → OneRun k n ids m mark → (w : ℕ) → w ≡ windowOf (getD ids 0 0) → w ≡ windowOf (wantedBy ids (placesFrom 0 (length ids)) 0)
 own-first k n ids m mark few o w e = e ∙ ap windowOf (sym (own-number ids few 0 (o .run .more)))
 
 module _ (k : Kind) (n : ℕ) (ids : List ℕ) (few : length ids ≤ 1024) where
   abbrev own : List ℕ
-  own = places 0 (length ids)
+  own = placesFrom 0 (length ids)
 
   own-inside : (t : ℕ) → t < length ids → t < length own
   own-inside t h = omega (arith, places-length 0 (length ids))

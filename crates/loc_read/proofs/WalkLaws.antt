@@ -18,13 +18,13 @@ use Rattle.loc_calls.specs.Areas.{Areas, count}
 use Rattle.loc_calls.specs.Table.{wordWidth}
 use Rattle.loc_calls.specs.Reading.{before, windowEnd, within, rowMissing, anyMissing}
 use Rattle.loc_order.specs.Order.{All, sorted}
-use Rattle.loc_order.specs.Keys.{keysFrom, places, placeOf, wantedBy, KeyOf}
+use Rattle.loc_order.specs.Keys.{keysFrom, placesFrom, placeOf, wantedBy, KeyOf}
 use Rattle.loc_order.proofs.OrderLaws.{all-of}
 use Rattle.loc_order.proofs.KeyLaws.{keys-right, keys-meet, places-at}
 use Rattle.loc_answer.specs.Words.{RunSafe, Agrees, RunPut}
 use Rattle.loc_answer.proofs.AnswerLaws.{zeros-has}
 use Rattle.loc_window.specs.declared.Sums.{Sums}
-use Rattle.loc_window.specs.Window.{placed, complete, Stored, Summing, Copied}
+use Rattle.loc_window.specs.Window.{windowAreas, complete, SumsStored, Summing, Copied}
 use Rattle.loc_window.proofs.SummingLaws.{summed-known, summed-stored}
 use Rattle.loc_read.specs.Runs.{IsRun}
 use Rattle.loc_read.specs.Walk.{Readable, rightAt, HasRight, Passing, Answered, Finished}
@@ -79,16 +79,16 @@ module _ (k : Kind) (a : Areas) (n nr : ℕ) (ids keys : List ℕ) (rd : Readabl
 
     module _ (bytes old : Bytes) (copied : Copied (a .slots) (16 + 2 * f) (2 * m) old bytes) where
       -- the slot loop ends the walk
-      pub run-lacks : complete k (placed f bytes (a .rows)) f m ≡ false → anyMissing k a ids ≡ true
+      pub run-lacks : complete k (windowAreas f bytes (a .rows)) f m ≡ false → anyMissing k a ids ≡ true
       run-lacks e =
           any-at k a ids (placeOf (getD keys (run .most) 0)) (key-there n ids keys ks (run .most) (omega (arith, run .mostEnd, run .inside)))
           (window-lacks k a n nr ids keys i end f m stamp mark bytes old [] [] rd ks run first copied e)
 
       module _ (block : ℕ) (s : Sums) (body span : List ℕ) (w : Summing k 1025 f m bytes (a .rows) nr mark stamp block s body span) (h : m ≤ 8 * block) where
-        abbrev known : complete k (placed f bytes (a .rows)) f m ≡ true
+        abbrev known : complete k (windowAreas f bytes (a .rows)) f m ≡ true
         known = summed-known k 1025 f m bytes (a .rows) nr mark stamp block s body span w h
 
-        abbrev stored : Stored k f bytes (a .rows) mark stamp m body span
+        abbrev stored : SumsStored k f bytes (a .rows) mark stamp m body span
         stored = summed-stored k 1025 f m bytes (a .rows) nr mark stamp block s body span w h
 
         pub run-safe : (out : List ℕ) → wordWidth k * length ids ≤ length out → RunSafe k ids keys i end body span out
@@ -142,7 +142,7 @@ module _ (k : Kind) (a : Areas) (ids : List ℕ) where
   none-missing (x ∷ xs) h = rw (h 0 (omega arith), none-missing xs (λ p l. h (suc p) (omega arith))) refl
 
   -- a list that is one run is answered by its one turn
-  pub finished-own : (old out : List ℕ) → length ids ≤ 1024 → Passing k a ids (places 0 (length ids)) (length ids) old out → Finished k a ids out 0
+  pub finished-own : (old out : List ℕ) → length ids ≤ 1024 → Passing k a ids (placesFrom 0 (length ids)) (length ids) old out → Finished k a ids out 0
   unfolding Answered
   finished-own old out few w =
       record {

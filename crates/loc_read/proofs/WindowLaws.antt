@@ -21,7 +21,7 @@ use Rattle.loc_order.specs.Order.{All}
 use Rattle.loc_order.specs.Keys.{wantedBy, KeyOf}
 use Rattle.loc_order.proofs.OrderLaws.{all-at}
 use Rattle.loc_answer.specs.Words.{Summed, sumWords}
-use Rattle.loc_window.specs.Window.{placed, complete, Rising, sumsOf, Right, Stored, Summing, Copied}
+use Rattle.loc_window.specs.Window.{windowAreas, complete, Rising, sumsOf, Right, SumsStored, Summing, Copied}
 use Rattle.loc_window.proofs.SumLaws.{all-more}
 use Rattle.loc_window.proofs.WindowLaws.{past-rows, complete-same, right-strides, right-spans}
 use Rattle.loc_window.proofs.SummingLaws.{summing-begins}
@@ -83,12 +83,12 @@ module _ (k : Kind) (a : Areas) (n nr : ℕ) (ids keys : List ℕ) (i end f m st
   own-window t h g = ap (λ (w : ℕ). 1024 * w) (run .window t h g) ∙ sym first
 
   -- a slot that is looked at lacks its row
-  pub window-lacks : complete k (placed f bytes (a .rows)) f m ≡ false → rowMissing k a (wantedBy ids keys (run .most)) ≡ true
+  pub window-lacks : complete k (windowAreas f bytes (a .rows)) f m ≡ false → rowMissing k a (wantedBy ids keys (run .most)) ≡ true
   unfolding rowMissing
   window-lacks e =
       rw (← rd .counted, all-at (KeyOf n ids) keys ks (run .most) (here (run .most) (run .mostEnd)) .inside, run .isMost, own-window (run .most) (run .mostFrom) (run .mostEnd), sym (complete-same k a f m bytes old copied m (le-refl m)) ∙ e) refl
 
-  module _ (known : complete k (placed f bytes (a .rows)) f m ≡ true) (stored : Stored k f bytes (a .rows) mark stamp m body span)
+  module _ (known : complete k (windowAreas f bytes (a .rows)) f m ≡ true) (stored : SumsStored k f bytes (a .rows) mark stamp m body span)
       (e₁ : length body ≡ 1025) (e₂ : length span ≡ 1025) (t : ℕ) (h : i ≤ t) (g : t < end) where
     abbrev id : ℕ
     id = wantedBy ids keys t

@@ -8,7 +8,7 @@ use Rattle.loc_leaf.specs.declared.Kind.{Kind}
 use Rattle.loc_leaf.specs.Kind.{windowOf, withinWindow}
 use Rattle.loc_calls.specs.Reading.{lookedAt}
 use Rattle.loc_order.specs.Order.{All}
-use Rattle.loc_order.specs.Keys.{places, wantedBy, KeyOf}
+use Rattle.loc_order.specs.Keys.{placesFrom, wantedBy, KeyOf}
 
 -- the keys `from` to `end`: m is the most records that one of them looks at, and the block of each is marked
 pub record IsRun (k : Kind) (n : ℕ) (ids keys : List ℕ) (from end m stamp : ℕ) (mark : List ℕ) : Type 0 where
@@ -24,5 +24,5 @@ pub record IsRun (k : Kind) (n : ℕ) (ids keys : List ℕ) (from end m stamp : 
 
 -- the numbers of the whole list lie in one window: m is the most records that one of them looks at, and 1 marks the block of each
 pub record OneRun (k : Kind) (n : ℕ) (ids : List ℕ) (m : ℕ) (mark : List ℕ) : Type 0 where
-  pub keys : All (KeyOf n ids) (places 0 (length ids))
-  pub run : IsRun k n ids (places 0 (length ids)) 0 (length ids) m 1 mark
+  pub keys : All (KeyOf n ids) (placesFrom 0 (length ids))
+  pub run : IsRun k n ids (placesFrom 0 (length ids)) 0 (length ids) m 1 mark

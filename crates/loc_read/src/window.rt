@@ -9,7 +9,7 @@ ghost use Rattle.loc_calls.specs.Areas.{areas};
 ghost use Rattle.loc_calls.specs.Table.{read};
 ghost use Rattle.loc_calls.specs.Calls.{call};
 ghost use Rattle.loc_calls.specs.Promises.{Read};
-ghost use Rattle.loc_window.specs.Window.{placed, complete, sumsOf, Summing};
+ghost use Rattle.loc_window.specs.Window.{windowAreas, complete, sumsOf, Summing};
 ghost use Rattle.loc_read.specs.Runs.{OneRun};
 ghost use Rattle.loc_read.specs.Walk.{WindowSummed};
 ghost use Rattle.loc_read.specs.Read.{Tested};
@@ -40,7 +40,7 @@ fn window_sums(
 ) -> bool
     requires { ⌜ (length (now mark) ≡ 128) × Summing kind 1025 first m (now bytes) (now rows) «row_count» (now mark) 1 0 (sumsOf 0 0 («row_count» + 1) 0) (now body) (now span) ⌝ }
     ensures { λ r. ⌜ (r ≡ true → WindowSummed kind first m (now (bytes .entry)) (now (rows .entry)) «row_count» (now (mark .entry)) 1 (now (body .exit)) (now (span .exit)))
-        × (r ≡ false → complete kind (placed first (now (bytes .entry)) (now (rows .entry))) first m ≡ false) ⌝ }
+        × (r ≡ false → complete kind (windowAreas first (now (bytes .entry)) (now (rows .entry))) first m ≡ false) ⌝ }
 {
     let mut strides: u64 = 0;
     let mut spans: u64 = 0;

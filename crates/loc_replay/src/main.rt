@@ -7,21 +7,8 @@ mod reading;
 mod tape;
 
 use crate::tape::State;
+use files::load;
 use libc::STDOUT_FILENO;
-ghost use Rattle.io.specs.Counts.{Counts};
-
-// The file's first bytes, as many as buf holds: how many. A file that is missing counts as empty.
-fn load(path: &[u8], buf: &mut [u8]) -> usize
-    ensures { λ r. ⌜ Counts r (now (buf .exit)) ⌝ }
-{
-    let fd = os::open_read(path);
-    if fd < 0 {
-        return 0;
-    }
-    let n = io::read_full(fd, buf);
-    libc::close(fd);
-    n
-}
 
 fn print_end(end: State) {
     io::print_decimal(STDOUT_FILENO, end.answers);

@@ -25,7 +25,7 @@ use Rattle.loc_calls.specs.Areas.{Areas, count, areas}
 use Rattle.loc_calls.specs.Stores.{truncatePlaces, nextRow, holdsNext, cutRule, ruledCount, ruled}
 use Rattle.loc_store.specs.declared.Lengths.{Lengths}
 use Rattle.loc_store.specs.declared.Rules.{Rules}
-use Rattle.loc_store.specs.Areas.{Sized}
+use Rattle.loc_store.specs.Areas.{HoldHeaders}
 use Rattle.loc_store.specs.Plans.{fitted, lengthsFor, placeAt, lengthPlaces, rulesFor, numberBefore, cutPast}
 use Rattle.loc_store.proofs.PlanLaws.{kept-room}
 use Rattle.loc_store.proofs.StoreLaws.{run-three}
@@ -114,7 +114,7 @@ module _ (k : Kind) (xs : Bytes) (p : ℕ) (h : p ≤ fill (rowWidth k) xs) (g :
 
 -- ---- what is left by the checkpoint rule's truncation to n records, and what the cut rule keeps of it
 
-module _ (k : Kind) (s r c : Bytes) (g : Sized (areas s r c)) (ls : length s < 2 ^ 64) (lr : length r < 2 ^ 64) (asc : ascending 0 (rowList k r) ≡ true)
+module _ (k : Kind) (s r c : Bytes) (g : HoldHeaders (areas s r c)) (ls : length s < 2 ^ 64) (lr : length r < 2 ^ 64) (asc : ascending 0 (rowList k r) ≡ true)
     (n : ℕ) (en : n ≡ checkpointRule (fill 2 s) (fill (checkpointWidth k) c)) (room : 2 * n ≤ length s - 16) where
   abbrev kept : ℕ
   kept = rowsUpTo n (rowList k r)

@@ -21,7 +21,7 @@ use Rattle.loc_calls.specs.Stores.{Place, keep, slotLength, rowLength, checkpoi
 use Rattle.loc_calls.specs.Calls.{tooSmall, firstRefusal}
 use Rattle.loc_store.specs.declared.Lengths.{Lengths}
 use Rattle.loc_store.specs.declared.Rules.{Rules}
-use Rattle.loc_store.specs.Areas.{Sized}
+use Rattle.loc_store.specs.Areas.{HoldHeaders}
 use Rattle.loc_store.specs.Plans.{lengthsFor, placeAt, lengthPlaces, rulesPlaces, rulesFor}
 
 -- ---- places that store nothing
@@ -112,7 +112,7 @@ module _ (k : Kind) (a : Areas) (number : ℕ) (e : number ≡ openRefusal k a) 
 
 -- ---- what an accepted call knows
 
-pub not-small : (s r c : Bytes) (b : Bool) → b ≡ tooSmall (areas s r c) → b ≡ false → Sized (areas s r c)
+pub not-small : (s r c : Bytes) (b : Bool) → b ≡ tooSmall (areas s r c) → b ≡ false → HoldHeaders (areas s r c)
 unfolding tooSmall
 not-small s r c b e h =
     record {
@@ -142,7 +142,7 @@ opened-ascends k s r c n e h = not-false (ascending 0 (rowList k r)) (refuse-zer
 
 -- of number 1 and 6
 module _ (k : Kind) (s r c : Bytes) (n : ℕ) (e : n ≡ firstRefusal k (areas s r c)) (h : n ≡ 0) where
-  pub accepted-sized : Sized (areas s r c)
+  pub accepted-sized : HoldHeaders (areas s r c)
   accepted-sized = not-small s r c (tooSmall (areas s r c)) refl (refuse-zero (tooSmall (areas s r c)) 0 (orElse-left _ (refuse (not (settled k (areas s r c))) 6) (sym e ∙ h)))
 
   pub accepted-settled : settled k (areas s r c) ≡ true

@@ -6,7 +6,7 @@ ghost use Prim.Native.Nat.{_<_};
 ghost use Rattle.loc_calls.specs.Stores.{ragged, anyStores, openRefusal, settled};
 ghost use Rattle.loc_calls.specs.Calls.{tooSmall, firstRefusal};
 ghost use Rattle.loc_calls.specs.Areas.{areas};
-ghost use Rattle.loc_store.specs.Areas.{Sized};
+ghost use Rattle.loc_store.specs.Areas.{HoldHeaders};
 ghost use Rattle.loc_store.specs.Plans.{lengthPlaces};
 use crate::Lengths;
 use crate::plan::rules;
@@ -79,7 +79,7 @@ fn stands(lengths: Lengths, slots: &[u8], rows: &[u8], checkpoints: &[u8]) -> bo
 
 // Whether opening would neither refuse nor change a stored length.
 fn settled(kind: Kind, slots: &[u8], rows: &[u8], checkpoints: &[u8]) -> bool
-    requires { ⌜ Sized (areas (now slots) (now rows) (now checkpoints)) ⌝ }
+    requires { ⌜ HoldHeaders (areas (now slots) (now rows) (now checkpoints)) ⌝ }
     ensures { λ r. ⌜ r ≡ settled kind (areas (now (slots .entry)) (now (rows .entry)) (now (checkpoints .entry))) ⌝ }
 {
     let number = open_refusal(kind, slots, rows, checkpoints);

@@ -9,7 +9,7 @@ ghost use Rattle.loc_leaf.specs.Kind.{checkpointWidth};
 ghost use Rattle.loc_leaf.specs.Slot.{checkpointRule};
 ghost use Rattle.loc_leaf.specs.Rows.{rowList, ascending};
 ghost use Rattle.loc_calls.specs.Areas.{areas};
-ghost use Rattle.loc_store.specs.Areas.{Sized};
+ghost use Rattle.loc_store.specs.Areas.{HoldHeaders};
 ghost use Rattle.loc_store.specs.Plans.{lengthsFor, numberBefore, cutPast, rulesFor};
 use crate::Lengths;
 use crate::Rules;
@@ -88,7 +88,7 @@ fn cut_count(kind: Kind, slots: &[u8], rows: &[u8], n: u64, end: usize) -> u64
 
 // The lengths of an opening's two truncations.
 pub fn rules(kind: Kind, slots: &[u8], rows: &[u8], checkpoints: &[u8]) -> Rules
-    requires { ⌜ Sized (areas (now slots) (now rows) (now checkpoints)) ⌝ }
+    requires { ⌜ HoldHeaders (areas (now slots) (now rows) (now checkpoints)) ⌝ }
     requires { ⌜ ascending 0 (rowList kind (now rows)) ≡ true ⌝ }
     ensures { λ r. ⌜ r ≡ rulesFor kind (areas (now (slots .entry)) (now (rows .entry)) (now (checkpoints .entry))) ⌝ }
 {

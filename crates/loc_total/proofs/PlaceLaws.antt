@@ -19,7 +19,7 @@ use Rattle.loc_leaf.specs.Slot.{needsRow, inline}
 use Rattle.loc_leaf.specs.Rows.{rowList, rowNumber, rowValue, rowFor, hasRow, lookup, slotValue, ascending, numberIn}
 use Rattle.loc_leaf.proofs.Booleans.{is?}
 use Rattle.loc_leaf.proofs.RowLaws.{rising}
-use Rattle.loc_window.specs.Block.{slotOf}
+use Rattle.loc_window.specs.Block.{slotBytes}
 use Rattle.loc_total.specs.Total.{lookupFrom}
 
 -- ---- the row that is numbered id
@@ -64,31 +64,31 @@ module _ (k : Kind) (f : ℕ) (bytes rows : Bytes) (i : ℕ) where
   rs = rowList k rows
 
   -- by its row, or by its slot
-  by-row : (p : ℕ) → needsRow k (slotOf bytes i) ≡ true → lookupFrom k f bytes rows p i ≡ lookup k (f + suc i) (drop p rs)
+  by-row : (p : ℕ) → needsRow k (slotBytes bytes i) ≡ true → lookupFrom k f bytes rows p i ≡ lookup k (f + suc i) (drop p rs)
   unfolding lookupFrom slotValue
-  by-row p t = ap (λ (b : Bool). cond b (lookup k (f + suc i) (drop p rs)) (Found (inline k (slotOf bytes i)))) t
+  by-row p t = ap (λ (b : Bool). cond b (lookup k (f + suc i) (drop p rs)) (Found (inline k (slotBytes bytes i)))) t
 
-  by-slot : (p : ℕ) → needsRow k (slotOf bytes i) ≡ false → lookupFrom k f bytes rows p i ≡ Found (inline k (slotOf bytes i))
+  by-slot : (p : ℕ) → needsRow k (slotBytes bytes i) ≡ false → lookupFrom k f bytes rows p i ≡ Found (inline k (slotBytes bytes i))
   unfolding lookupFrom slotValue
-  by-slot p t = ap (λ (b : Bool). cond b (lookup k (f + suc i) (drop p rs)) (Found (inline k (slotOf bytes i)))) t
+  by-slot p t = ap (λ (b : Bool). cond b (lookup k (f + suc i) (drop p rs)) (Found (inline k (slotBytes bytes i)))) t
 
   -- rows that are numbered otherwise, or that it does not need
-  pub from-other : (n p : ℕ) → p + n ≤ length rs → ((q : ℕ) → p ≤ q → q < p + n → numberIn rs q ≡ f + suc i → needsRow k (slotOf bytes i) ≡ false)
+  pub from-other : (n p : ℕ) → p + n ≤ length rs → ((q : ℕ) → p ≤ q → q < p + n → numberIn rs q ≡ f + suc i → needsRow k (slotBytes bytes i) ≡ false)
       → lookupFrom k f bytes rows p i ≡ lookupFrom k f bytes rows (p + n) i
-  from-other n p h d = go (is? (needsRow k (slotOf bytes i)))
+  from-other n p h d = go (is? (needsRow k (slotBytes bytes i)))
     where
-      go : (needsRow k (slotOf bytes i) ≡ true) ⊎ (needsRow k (slotOf bytes i) ≡ false) → lookupFrom k f bytes rows p i ≡ lookupFrom k f bytes rows (p + n) i
+      go : (needsRow k (slotBytes bytes i) ≡ true) ⊎ (needsRow k (slotBytes bytes i) ≡ false) → lookupFrom k f bytes rows p i ≡ lookupFrom k f bytes rows (p + n) i
       go (inl t) = by-row p t ∙ rows-other k rs (f + suc i) n p h (λ q g l e. true≢false (sym t ∙ d q g l e)) ∙ sym (by-row (p + n) t)
       go (inr t) = by-slot p t ∙ sym (by-slot (p + n) t)
 
   -- the row that it needs
-  pub from-here : (p : ℕ) → p < length rs → numberIn rs p ≡ f + suc i → needsRow k (slotOf bytes i) ≡ true → lookupFrom k f bytes rows p i ≡ Found (rowValue k (getD rs p []))
+  pub from-here : (p : ℕ) → p < length rs → numberIn rs p ≡ f + suc i → needsRow k (slotBytes bytes i) ≡ true → lookupFrom k f bytes rows p i ≡ Found (rowValue k (getD rs p []))
   from-here p h e t = by-row p t ∙ row-here k rs (f + suc i) p h e
 
-  pub from-behind : ascending 0 rs ≡ true → (p : ℕ) → p < length rs → numberIn rs p ≡ f + suc i → needsRow k (slotOf bytes i) ≡ true → lookupFrom k f bytes rows (p + 1) i ≡ Missing
+  pub from-behind : ascending 0 rs ≡ true → (p : ℕ) → p < length rs → numberIn rs p ≡ f + suc i → needsRow k (slotBytes bytes i) ≡ true → lookupFrom k f bytes rows (p + 1) i ≡ Missing
   from-behind a p h e t = by-row (p + 1) t ∙ none-behind k rs (f + suc i) a p h e
 
   -- no row at all
-  pub from-past : lookupFrom k f bytes rows (length rs) i ≡ cond (needsRow k (slotOf bytes i)) Missing (Found (inline k (slotOf bytes i)))
+  pub from-past : lookupFrom k f bytes rows (length rs) i ≡ cond (needsRow k (slotBytes bytes i)) Missing (Found (inline k (slotBytes bytes i)))
   unfolding lookupFrom slotValue
-  from-past = ap (λ (l : Lookup). cond (needsRow k (slotOf bytes i)) l (Found (inline k (slotOf bytes i)))) (none-past k rs (f + suc i))
+  from-past = ap (λ (l : Lookup). cond (needsRow k (slotBytes bytes i)) l (Found (inline k (slotBytes bytes i)))) (none-past k rs (f + suc i))

@@ -10,7 +10,7 @@ use Rattle.loc_leaf.specs.declared.Kind.the-variants.{Paired, Single}
 use Rattle.loc_leaf.specs.declared.Value.{Value}
 use Rattle.loc_leaf.specs.Bytes.{Bytes, byte}
 use Rattle.loc_leaf.specs.Slot.{inline}
-use Rattle.loc_window.specs.Block.{slotOf, rowBit}
+use Rattle.loc_window.specs.Block.{slotBytes, rowBit}
 use Rattle.loc_total.specs.declared.Total.{Total}
 use Rattle.loc_total.specs.Slots.{SlotTotal}
 use Rattle.loc_total.proofs.SumLaws.{sum-next, bits-low}
@@ -29,15 +29,15 @@ module _ (k : Kind) (s : Bytes) (i : ℕ) (t : Total) (p : SlotTotal k s i t) wh
   slots-small h = (omega (arith, p .stridesLow), omega (arith, p .spansLow), omega (arith, p .isLacking, bits-low k s 0 i))
 
   -- one record more
-  pub slot-next : (v : Value) (b : ℕ) → byte (2 * i) s < 256 → byte (2 * i + 1) s < 256 → v ≡ inline k (slotOf s i) → b ≡ rowBit k s i
+  pub slot-next : (v : Value) (b : ℕ) → byte (2 * i) s < 256 → byte (2 * i + 1) s < 256 → v ≡ inline k (slotBytes s i) → b ≡ rowBit k s i
       → SlotTotal k s (i + 1) (totalOf (t .strides + v .strides) (t .spans + v .spans) (t .lacking + b))
   slot-next v b hx hy ev eb =
-      let vx : v .strides ≡ inline k (slotOf s i) .strides = ap (λ (u : Value). u .strides) ev in
-      let vy : v .spans ≡ inline k (slotOf s i) .spans = ap (λ (u : Value). u .spans) ev in
+      let vx : v .strides ≡ inline k (slotBytes s i) .strides = ap (λ (u : Value). u .strides) ev in
+      let vy : v .spans ≡ inline k (slotBytes s i) .spans = ap (λ (u : Value). u .spans) ev in
       let l = inline-low k (byte (2 * i) s) (byte (2 * i + 1) s) hx hy in
       record {
-        isStrides = (λ j. p .isStrides j + vx j) ∙ sym (sum-next (λ n. inline k (slotOf s n) .strides) i);
-        isSpans = (λ j. p .isSpans j + vy j) ∙ sym (sum-next (λ n. inline k (slotOf s n) .spans) i);
+        isStrides = (λ j. p .isStrides j + vx j) ∙ sym (sum-next (λ n. inline k (slotBytes s n) .strides) i);
+        isSpans = (λ j. p .isSpans j + vy j) ∙ sym (sum-next (λ n. inline k (slotBytes s n) .spans) i);
         isLacking = (λ j. p .isLacking j + eb j) ∙ sym (sum-next (rowBit k s) i);
         stridesLow = omega (arith, p .stridesLow, l .0);
         spansLow = omega (arith, p .spansLow, l .1);

@@ -7,7 +7,7 @@ use native.Mathlib.Omega.{arith}
 use Rattle.loc_leaf.specs.declared.Kind.{Kind}
 use Rattle.loc_leaf.specs.Bytes.{Bytes}
 use Rattle.loc_leaf.specs.Slot.{needsRow}
-use Rattle.loc_window.specs.Block.{slotOf, rowBit, sumFrom}
+use Rattle.loc_window.specs.Block.{slotBytes, rowBit, sumFrom}
 use Rattle.loc_window.proofs.BlockLaws.{sum-same}
 use Rattle.loc_window.proofs.MaskLaws.{bit-lt}
 use Rattle.loc_window.proofs.BlocksLaws.{sum-split, sum-at}
@@ -43,4 +43,4 @@ module _ (g h : ℕ → ℕ) (m j : ℕ) (l : j < m) (same : (i : ℕ) → i < m
 pub bits-low : (k : Kind) (s : Bytes) (j n : ℕ) → sumFrom (rowBit k s) j n ≤ n
 unfolding sumFrom
 bits-low k s j zero = omega arith
-bits-low k s j (suc n) = omega (arith, bit-lt (needsRow k (slotOf s j)), bits-low k s (j + 1) n)
+bits-low k s j (suc n) = omega (arith, bit-lt (needsRow k (slotBytes s j)), bits-low k s (j + 1) n)

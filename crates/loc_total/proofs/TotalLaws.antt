@@ -19,8 +19,8 @@ use Rattle.loc_leaf.specs.Rows.{rowList, rowValue, numberIn, valueIn}
 use Rattle.loc_leaf.proofs.RowLaws.{rising, rows-count}
 use Rattle.loc_calls.specs.Areas.{Areas, areas}
 use Rattle.loc_calls.specs.Reading.{sumAfter, allAfter, lookupAt, has, valueAt, stridesAfter, spansAfter}
-use Rattle.loc_window.specs.Block.{slotOf, rowBit, sumFrom}
-use Rattle.loc_window.specs.Window.{placed, complete, Rising, Copied}
+use Rattle.loc_window.specs.Block.{slotBytes, rowBit, sumFrom}
+use Rattle.loc_window.specs.Window.{windowAreas, complete, Rising, Copied}
 use Rattle.loc_window.proofs.BlockLaws.{sum-same}
 use Rattle.loc_window.proofs.SumLaws.{lookup-is}
 use Rattle.loc_window.proofs.WindowLaws.{part-copied, complete-same, strides-same, spans-same}
@@ -38,10 +38,10 @@ module _ (k : Kind) (f : ℕ) (bytes rows : Bytes) (m : ℕ) where
 
   -- the three sums
   abbrev strides : ℕ → Lookup → ℕ
-  strides i l = valueOr (inline k (slotOf bytes i)) l .strides
+  strides i l = valueOr (inline k (slotBytes bytes i)) l .strides
 
   abbrev spans : ℕ → Lookup → ℕ
-  spans i l = valueOr (inline k (slotOf bytes i)) l .spans
+  spans i l = valueOr (inline k (slotBytes bytes i)) l .spans
 
   -- ---- no row
 
@@ -49,25 +49,25 @@ module _ (k : Kind) (f : ℕ) (bytes rows : Bytes) (m : ℕ) where
   unfolding valueOr lack
   with-none nr t r p =
       record {
-        isStrides = p .isStrides ∙ same strides (λ i. inline k (slotOf bytes i) .strides) (λ i. value i (λ v. v .strides));
-        isSpans = p .isSpans ∙ same spans (λ i. inline k (slotOf bytes i) .spans) (λ i. value i (λ v. v .spans));
-        isLacking = p .isLacking ∙ same (λ _ l. lack l) (rowBit k bytes) (λ i. bit (needsRow k (slotOf bytes i)) (inline k (slotOf bytes i)));
+        isStrides = p .isStrides ∙ same strides (λ i. inline k (slotBytes bytes i) .strides) (λ i. value i (λ v. v .strides));
+        isSpans = p .isSpans ∙ same spans (λ i. inline k (slotBytes bytes i) .spans) (λ i. value i (λ v. v .spans));
+        isLacking = p .isLacking ∙ same (λ _ l. lack l) (rowBit k bytes) (λ i. bit (needsRow k (slotBytes bytes i)) (inline k (slotBytes bytes i)));
         stridesLow = omega (arith, p .stridesLow, p .isLacking, bits-low k bytes 0 m);
         spansLow = omega (arith, p .spansLow, p .isLacking, bits-low k bytes 0 m);
       }
     where
-      past : (i : ℕ) → lookupFrom k f bytes rows nr i ≡ cond (needsRow k (slotOf bytes i)) Missing (Found (inline k (slotOf bytes i)))
+      past : (i : ℕ) → lookupFrom k f bytes rows nr i ≡ cond (needsRow k (slotBytes bytes i)) Missing (Found (inline k (slotBytes bytes i)))
       past i = ap (λ (n : ℕ). lookupFrom k f bytes rows n i) (r .counted ∙ sym (rows-count k rows)) ∙ from-past k f bytes rows i
 
-      same : (g : ℕ → Lookup → ℕ) (h : ℕ → ℕ) → ((i : ℕ) → g i (cond (needsRow k (slotOf bytes i)) Missing (Found (inline k (slotOf bytes i)))) ≡ h i) → sumFrom h 0 m ≡ sumOf g nr
+      same : (g : ℕ → Lookup → ℕ) (h : ℕ → ℕ) → ((i : ℕ) → g i (cond (needsRow k (slotBytes bytes i)) Missing (Found (inline k (slotBytes bytes i)))) ≡ h i) → sumFrom h 0 m ≡ sumOf g nr
       same g h e = sum-same h (λ i. g i (lookupFrom k f bytes rows nr i)) 0 0 m (λ i l. sym (ap (g (0 + i)) (past (0 + i)) ∙ e (0 + i)))
 
       either : (b : Bool) (v : Value) → valueOr v (cond b Missing (Found v)) ≡ v
       either true v = refl
       either false v = refl
 
-      value : (i : ℕ) (g : Value → ℕ) → g (valueOr (inline k (slotOf bytes i)) (cond (needsRow k (slotOf bytes i)) Missing (Found (inline k (slotOf bytes i))))) ≡ g (inline k (slotOf bytes i))
-      value i g = ap g (either (needsRow k (slotOf bytes i)) (inline k (slotOf bytes i)))
+      value : (i : ℕ) (g : Value → ℕ) → g (valueOr (inline k (slotBytes bytes i)) (cond (needsRow k (slotBytes bytes i)) Missing (Found (inline k (slotBytes bytes i))))) ≡ g (inline k (slotBytes bytes i))
+      value i g = ap g (either (needsRow k (slotBytes bytes i)) (inline k (slotBytes bytes i)))
 
       bit : (b : Bool) (v : Value) → lack (cond b Missing (Found v)) ≡ cond b 1 0
       bit true v = refl
@@ -96,7 +96,7 @@ module _ (k : Kind) (f : ℕ) (bytes rows : Bytes) (m : ℕ) where
     within p h = omega (arith, rows-count k rows, r .counted)
 
     -- a row that no record needs
-    with-other : (p : ℕ) (t : Total) → p < nr → ((i : ℕ) → i < m → numberIn (rowList k rows) p ≡ f + suc i → needsRow k (slotOf bytes i) ≡ false)
+    with-other : (p : ℕ) (t : Total) → p < nr → ((i : ℕ) → i < m → numberIn (rowList k rows) p ≡ f + suc i → needsRow k (slotBytes bytes i) ≡ false)
         → WithRows k f bytes rows m (p + 1) t → WithRows k f bytes rows m p t
     with-other p t h d w =
         with-alike (p + 1) p t (λ i l. sym (from-other k f bytes rows i 1 p (omega (arith, within p h)) (λ q a b e. d i l (at q a b ∙ e)))) w
@@ -126,16 +126,16 @@ module _ (k : Kind) (f : ℕ) (bytes rows : Bytes) (m : ℕ) where
       pub row-outside : m ≤ j → WithRows k f bytes rows m p t
       row-outside d = with-other p t h (λ i l e. absurd (omega arith)) w
 
-      module _ (b : Bool) (eb : b ≡ needsRow k (slotOf bytes j)) where
+      module _ (b : Bool) (eb : b ≡ needsRow k (slotBytes bytes j)) where
         pub row-unneeded : b ≡ false → WithRows k f bytes rows m p t
-        row-unneeded z = with-other p t h (λ i l e. let q : j ≡ i = omega arith in subst (λ (n : ℕ). needsRow k (slotOf bytes n) ≡ false) q (sym eb ∙ z)) w
+        row-unneeded z = with-other p t h (λ i l e. let q : j ≡ i = omega arith in subst (λ (n : ℕ). needsRow k (slotBytes bytes n) ≡ false) q (sym eb ∙ z)) w
 
         -- the record needs it
-        module _ (l : j < m) (tb : b ≡ true) (s v : Value) (es : s ≡ inline k (slotOf bytes j)) (ev : v ≡ rowValue k (getD (rowList k rows) p [])) where
+        module _ (l : j < m) (tb : b ≡ true) (s v : Value) (es : s ≡ inline k (slotBytes bytes j)) (ev : v ≡ rowValue k (getD (rowList k rows) p [])) where
           e : numberIn (rowList k rows) p ≡ f + suc j
           e = omega arith
 
-          needs : needsRow k (slotOf bytes j) ≡ true
+          needs : needsRow k (slotBytes bytes j) ≡ true
           needs = sym eb ∙ tb
 
           -- a sum changes at record j alone
@@ -227,7 +227,7 @@ own v Missing e = absurd (omega arith)
 
 module _ (k : Kind) (f : ℕ) (bytes rows : Bytes) (m : ℕ) (t : Total) (w : WithRows k f bytes rows m 0 t) where
   abbrev there : Areas
-  there = placed f bytes rows
+  there = windowAreas f bytes rows
 
   looked : (i : ℕ) → lookupFrom k f bytes rows 0 i ≡ lookupAt k there (f + suc i)
   unfolding lookupFrom
@@ -245,7 +245,7 @@ module _ (k : Kind) (f : ℕ) (bytes rows : Bytes) (m : ℕ) (t : Total) (w : Wi
       none i h = omega (arith, w .isLacking, sum-changed (lackFrom k f bytes rows 0) (lackFrom k f bytes rows 0) m i h (λ _ _ _. refl) .1)
 
       value : (i : ℕ) → i < m → valueFrom k f bytes rows 0 i ≡ valueIn (lookupAt k there (f + suc i))
-      value i h = own (inline k (slotOf bytes i)) (lookupFrom k f bytes rows 0 i) (none i h) ∙ ap valueIn (looked i)
+      value i h = own (inline k (slotBytes bytes i)) (lookupFrom k f bytes rows 0 i) (none i h) ∙ ap valueIn (looked i)
 
   pub with-totalled : Totalled k there f m t
   unfolding stridesAfter spansAfter
@@ -272,10 +272,10 @@ module _ (k : Kind) (slots rows c : Bytes) (f m d : ℕ) (e : d ≡ 2 * m) where
   copied : Copied slots (16 + 2 * f) (2 * m) part part
   copied = part-copied slots (16 + 2 * f) (2 * m) d (omega arith)
 
-  all : complete k (placed f part rows) f m ≡ complete k whole f m
+  all : complete k (windowAreas f part rows) f m ≡ complete k whole f m
   all = complete-same k whole f m part part copied m (omega arith)
 
-  pub part-totalled : (t : Total) → Totalled k (placed f part rows) f m t → Totalled k whole f m t
+  pub part-totalled : (t : Total) → Totalled k (windowAreas f part rows) f m t → Totalled k whole f m t
   part-totalled t w =
       record {
         known = λ z. sym all ∙ w .known z;

@@ -15,7 +15,7 @@ use Rattle.loc_leaf.specs.Bytes.{Bytes, bytes}
 use Rattle.loc_leaf.specs.Block.{firsts, seconds}
 use Rattle.loc_leaf.specs.Slot.{needsRow, inline}
 use Rattle.loc_leaf.proofs.Lanes.{byte-mask, carry-mask, bytes-8}
-use Rattle.loc_window.specs.Block.{total, slotOf, rowBit, sumFrom, inlineStrides, inlineSpans}
+use Rattle.loc_window.specs.Block.{total, slotBytes, rowBit, sumFrom, inlineStrides, inlineSpans}
 use Rattle.loc_window.proofs.BlockLaws.{byte-parts, second-parts, word-mask, word-parts, odd-parts, low-bytes, two-bytes, records-are, part-sum}
 use Rattle.loc_window.proofs.MaskLaws.{bit-lt, Full, word-carries, Even, odd-is}
 use Rattle.loc_total.specs.declared.Total.{Total}
@@ -88,18 +88,18 @@ two-total x u s p h =
 
 module _ (s : Bytes) (i w : ℕ) (e : bytes 8 w ≡ take 8 (drop (8 * i) s)) where
   -- what its slots give, added up
-  word-sum : (g : Bytes → ℕ) → g (slotOf (bytes 8 w) 0) + g (slotOf (bytes 8 w) 1) + g (slotOf (bytes 8 w) 2) + g (slotOf (bytes 8 w) 3) ≡ sumFrom (λ t. g (slotOf s t)) (4 * i) 4
+  word-sum : (g : Bytes → ℕ) → g (slotBytes (bytes 8 w) 0) + g (slotBytes (bytes 8 w) 1) + g (slotBytes (bytes 8 w) 2) + g (slotBytes (bytes 8 w) 3) ≡ sumFrom (λ t. g (slotBytes s t)) (4 * i) 4
   unfolding sumFrom
   word-sum g =
       let p : 8 * i ≡ 2 * (4 * i) = omega arith in
-      let q : sumFrom (λ t. g (slotOf (bytes 8 w) t)) 0 4 ≡ sumFrom (λ t. g (slotOf s t)) (4 * i) 4 = part-sum s (4 * i) 4 (bytes 8 w) (e ∙ ap (λ (n : ℕ). take 8 (drop n s)) p) g in
+      let q : sumFrom (λ t. g (slotBytes (bytes 8 w) t)) 0 4 ≡ sumFrom (λ t. g (slotBytes s t)) (4 * i) 4 = part-sum s (4 * i) 4 (bytes 8 w) (e ∙ ap (λ (n : ℕ). take 8 (drop n s)) p) g in
       omega (arith, q)
 
   -- by its bytes
   byte-sum : (g : Bytes → ℕ)
       → g (w % 256 ∷ w / 2 ^ 8 % 256 ∷ []) + g (w / 2 ^ 16 % 256 ∷ w / 2 ^ 24 % 256 ∷ []) + g (w / 2 ^ 32 % 256 ∷ w / 2 ^ 40 % 256 ∷ []) + g (w / 2 ^ 48 % 256 ∷ w / 2 ^ 56 % 256 ∷ [])
-      ≡ sumFrom (λ t. g (slotOf s t)) (4 * i) 4
-  byte-sum g = sym (λ j. g (slotOf (bytes-8 w j) 0) + g (slotOf (bytes-8 w j) 1) + g (slotOf (bytes-8 w j) 2) + g (slotOf (bytes-8 w j) 3)) ∙ word-sum g
+      ≡ sumFrom (λ t. g (slotBytes s t)) (4 * i) 4
+  byte-sum g = sym (λ j. g (slotBytes (bytes-8 w j) 0) + g (slotBytes (bytes-8 w j) 1) + g (slotBytes (bytes-8 w j) 2) + g (slotBytes (bytes-8 w j) 3)) ∙ word-sum g
 
   -- the first bytes of its records, and the second
   pub four-strides : Four 255 (bitAnd w byte-mask) (inlineStrides Paired s (4 * i) 4)
@@ -131,10 +131,10 @@ module _ (s : Bytes) (i w : ℕ) (e : bytes 8 w ≡ take 8 (drop (8 * i) s)) whe
   -- which of them need no row
   pub four-full : (r : ℕ) → Full w r → Four 1 (r / 2 ^ 8) (4 - sumFrom (rowBit Paired s) (4 * i) 4)
   four-full r f =
-      let p = bit-lt (needsRow Paired (slotOf (bytes 8 w) 0)) in
-      let q = bit-lt (needsRow Paired (slotOf (bytes 8 w) 1)) in
-      let u = bit-lt (needsRow Paired (slotOf (bytes 8 w) 2)) in
-      let v = bit-lt (needsRow Paired (slotOf (bytes 8 w) 3)) in
+      let p = bit-lt (needsRow Paired (slotBytes (bytes 8 w) 0)) in
+      let q = bit-lt (needsRow Paired (slotBytes (bytes 8 w) 1)) in
+      let u = bit-lt (needsRow Paired (slotBytes (bytes 8 w) 2)) in
+      let v = bit-lt (needsRow Paired (slotBytes (bytes 8 w) 3)) in
       record {
         a = 1 - rowBit Paired (bytes 8 w) 0;
         b = 1 - rowBit Paired (bytes 8 w) 1;
@@ -159,10 +159,10 @@ module _ (s : Bytes) (i w : ℕ) (e : bytes 8 w ≡ take 8 (drop (8 * i) s)) whe
 
   pub two-full : (a b : ℕ) → Even w a → Even (w / 2 ^ 16) b → Two 131072 (a + b) (65536 * (4 - sumFrom (rowBit Single s) (4 * i) 4))
   two-full a b f g =
-      let p = bit-lt (needsRow Single (slotOf (bytes 8 w) 0)) in
-      let q = bit-lt (needsRow Single (slotOf (bytes 8 w) 1)) in
-      let u = bit-lt (needsRow Single (slotOf (bytes 8 w) 2)) in
-      let v = bit-lt (needsRow Single (slotOf (bytes 8 w) 3)) in
+      let p = bit-lt (needsRow Single (slotBytes (bytes 8 w) 0)) in
+      let q = bit-lt (needsRow Single (slotBytes (bytes 8 w) 1)) in
+      let u = bit-lt (needsRow Single (slotBytes (bytes 8 w) 2)) in
+      let v = bit-lt (needsRow Single (slotBytes (bytes 8 w) 3)) in
       let o = odd-is w a b f g in
       record {
         a = 65536 * (2 - (rowBit Single (bytes 8 w) 0 + rowBit Single (bytes 8 w) 1));

@@ -13,7 +13,7 @@ use Rattle.loc_leaf.specs.Slot.{inline}
 use Rattle.loc_leaf.specs.Rows.{rowList, slotValue}
 use Rattle.loc_calls.specs.Areas.{Areas}
 use Rattle.loc_calls.specs.Reading.{complete, stridesAfter, spansAfter}
-use Rattle.loc_window.specs.Block.{slotOf, sumFrom}
+use Rattle.loc_window.specs.Block.{slotBytes, sumFrom}
 use Rattle.loc_window.specs.Window.{Rising}
 use Rattle.loc_total.specs.declared.Total.{Total}
 
@@ -37,7 +37,7 @@ pub record Totalled (k : Kind) (a : Areas) (f m : ℕ) (t : Total) : Type 0 wher
 
 -- what slot i, counted from 0, and the rows from a place on say of its record
 unfoldable pub lookupFrom : Kind → ℕ → Bytes → Bytes → ℕ → ℕ → Lookup
-lookupFrom k f bytes rows place i = slotValue k (drop place (rowList k rows)) (f + suc i) (slotOf bytes i)
+lookupFrom k f bytes rows place i = slotValue k (drop place (rowList k rows)) (f + suc i) (slotBytes bytes i)
 
 -- the slot's bytes stand in for a row that is missing
 unfoldable pub valueOr : Value → Lookup → Value
@@ -50,7 +50,7 @@ lack Missing = 1
 
 -- record i's value and whether it lacks its row, by the rows from a place on
 abbrev pub valueFrom : Kind → ℕ → Bytes → Bytes → ℕ → ℕ → Value
-valueFrom k f bytes rows place i = valueOr (inline k (slotOf bytes i)) (lookupFrom k f bytes rows place i)
+valueFrom k f bytes rows place i = valueOr (inline k (slotBytes bytes i)) (lookupFrom k f bytes rows place i)
 
 abbrev pub lackFrom : Kind → ℕ → Bytes → Bytes → ℕ → ℕ → ℕ
 lackFrom k f bytes rows place i = lack (lookupFrom k f bytes rows place i)

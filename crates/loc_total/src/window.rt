@@ -2,7 +2,7 @@
 // Their slots are lent as a part, not copied.
 ghost use Rattle.loc_leaf.specs.Bytes.{Bytes};
 ghost use Rattle.loc_calls.specs.Areas.{areas};
-ghost use Rattle.loc_window.specs.Window.{placed};
+ghost use Rattle.loc_window.specs.Window.{windowAreas};
 ghost use Rattle.loc_total.specs.Total.{Walkable, Totalled, RowsReady};
 use crate::Total;
 use crate::rows::with_rows;
@@ -20,7 +20,7 @@ fn part_total(
     first: u64,
 ) -> Total
     requires { ⌜ RowsReady kind first (now bytes) (now rows) «row_count» m ⌝ }
-    ensures { λ r. ⌜ Totalled kind (placed first (now (bytes .entry)) (now (rows .entry))) first m r ⌝ }
+    ensures { λ r. ⌜ Totalled kind (windowAreas first (now (bytes .entry)) (now (rows .entry))) first m r ⌝ }
 {
     let t = slots_total(kind, bytes, m);
     with_rows(kind, bytes, m, rows, row_count, first, t)

@@ -17,7 +17,7 @@ use Rattle.loc_calls.specs.Reading.{sumAfter, allAfter, lookupAt, has, valueAt,
 use Rattle.loc_window.specs.declared.Sums.{Sums}
 use Rattle.loc_window.specs.declared.Step.{Step}
 use Rattle.loc_window.specs.declared.Step.the-variants.{Next, Lack}
-use Rattle.loc_window.specs.Window.{placed, Passed, After, sumsOf, Right, Stored, Summing, Copied}
+use Rattle.loc_window.specs.Window.{windowAreas, Passed, After, sumsOf, Right, SumsStored, Summing, Copied}
 use Rattle.loc_window.proofs.WindowLaws.{part-copied, complete-same, strides-same, spans-same, right-spans}
 use Rattle.loc_window.proofs.SummingLaws.{summing-begins, summed-stored}
 use Rattle.loc_whole.specs.Totals.{Walkable, Totals, Running, Totalled, Lent, PartTotalled}
@@ -64,7 +64,7 @@ module _ (a : Areas) (f m : ℕ) (some : 0 < m) where
   copied : Copied (a .slots) (16 + 2 * f) (2 * m) lent lent
   copied = part-copied (a .slots) (16 + 2 * f) (2 * m) (2 * m) (omega arith)
 
-  part-known : complete Paired (placed f lent (a .rows)) f m ≡ complete Paired a f m
+  part-known : complete Paired (windowAreas f lent (a .rows)) f m ≡ complete Paired a f m
   part-known = complete-same Paired a f m lent lent copied m (omega arith)
 
   part-sums : (s : Sums) → After Paired f lent (a .rows) m s → Totals a f m s
@@ -79,7 +79,7 @@ module _ (a : Areas) (f m : ℕ) (some : 0 < m) where
       }
 
   -- every block is marked
-  part-running : (mark body span : List ℕ) → mark ≡ replicate 128 0 → Stored Paired f lent (a .rows) mark 0 m body span → Running a f m span
+  part-running : (mark body span : List ℕ) → mark ≡ replicate 128 0 → SumsStored Paired f lent (a .rows) mark 0 m body span → Running a f m span
   part-running mark body span e w zero h = right-spans Paired a f m lent lent copied 0 body span h (w .here 0 some (ap (λ (l : List ℕ). getD l 0 0) e))
   part-running mark body span e w (suc j) h =
       right-spans Paired a f m lent lent copied (suc j) body span h
@@ -89,7 +89,7 @@ module _ (a : Areas) (f m : ℕ) (some : 0 < m) where
   unfolding PartTotalled Totalled
   part-totalled mark stamp body span (Next s) e w = (
     part-sums s (w .0),
-    λ z. part-running mark body span e (subst (λ (i : ℕ). Stored Paired f lent (a .rows) mark i m body span) z (w .1)),
+    λ z. part-running mark body span e (subst (λ (i : ℕ). SumsStored Paired f lent (a .rows) mark i m body span) z (w .1)),
   )
   part-totalled mark stamp body span Lack e w = sym part-known ∙ w
 
@@ -101,7 +101,7 @@ part-ends f m bytes rows nr mark stamp block s body span w h =
     let all : min (8 * block) m ≡ m = omega arith in
     (subst (λ (i : ℕ). After Paired f bytes rows i s) all (w .ready .after), summed-stored Paired 257 f m bytes rows nr mark stamp block s body span w h)
 
-pub part-lacks : (f m : ℕ) (bytes rows : Bytes) (mark : List ℕ) (stamp : ℕ) (body span : List ℕ) → complete Paired (placed f bytes rows) f m ≡ false → PartTotalled f bytes rows mark stamp m body span Lack
+pub part-lacks : (f m : ℕ) (bytes rows : Bytes) (mark : List ℕ) (stamp : ℕ) (body span : List ℕ) → complete Paired (windowAreas f bytes rows) f m ≡ false → PartTotalled f bytes rows mark stamp m body span Lack
 unfolding PartTotalled
 part-lacks f m bytes rows mark stamp body span e = e
 

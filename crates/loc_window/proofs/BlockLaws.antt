@@ -16,7 +16,7 @@ use Rattle.loc_leaf.specs.Bytes.{Bytes, byte, bytes}
 use Rattle.loc_leaf.specs.Block.{firsts, seconds}
 use Rattle.loc_leaf.specs.Slot.{inline}
 use Rattle.loc_leaf.proofs.Lanes.{byte-mask, bytes-8, shifted-firsts, lanes}
-use Rattle.loc_window.specs.Block.{total, totalStrides, totalSpans, slotOf, sumFrom, inlineStrides, inlineSpans}
+use Rattle.loc_window.specs.Block.{total, totalStrides, totalSpans, slotBytes, sumFrom, inlineStrides, inlineSpans}
 
 -- ---- eight bytes
 
@@ -259,7 +259,7 @@ module _ (s : Bytes) (k n : ℕ) (part : Bytes) (e : part ≡ take (2 * n) (drop
   part-byte u h = ap (byte u) e ∙ getD-take (2 * n) (drop (2 * k) s) u 0 h ∙ getD-drop (2 * k) s u 0
 
   -- record t of the part is record k + t of the copy
-  part-slot : (t : ℕ) → t < n → slotOf part t ≡ slotOf s (k + t)
+  part-slot : (t : ℕ) → t < n → slotBytes part t ≡ slotBytes s (k + t)
   part-slot t h =
       let p : 2 * k + 2 * t ≡ 2 * (k + t) = omega arith in
       let q : 2 * k + (2 * t + 1) ≡ 2 * (k + t) + 1 = omega arith in
@@ -267,17 +267,17 @@ module _ (s : Bytes) (k n : ℕ) (part : Bytes) (e : part ≡ take (2 * n) (drop
       let y : byte (2 * t + 1) part ≡ byte (2 * (k + t) + 1) s = part-byte (2 * t + 1) (omega arith) ∙ ap (λ (u : ℕ). byte u s) q in
       (λ i. x i ∷ y i ∷ [])
 
-  pub part-agree : (g : Bytes → ℕ) → Agree (λ i. g (slotOf part i)) (λ i. g (slotOf s i)) 0 k n
-  part-agree g t h = ap (λ (u : ℕ). g (slotOf part u)) (zero-add t) ∙ ap g (part-slot t h)
+  pub part-agree : (g : Bytes → ℕ) → Agree (λ i. g (slotBytes part i)) (λ i. g (slotBytes s i)) 0 k n
+  part-agree g t h = ap (λ (u : ℕ). g (slotBytes part u)) (zero-add t) ∙ ap g (part-slot t h)
 
-  pub part-sum : (g : Bytes → ℕ) → sumFrom (λ i. g (slotOf part i)) 0 n ≡ sumFrom (λ i. g (slotOf s i)) k n
+  pub part-sum : (g : Bytes → ℕ) → sumFrom (λ i. g (slotBytes part i)) 0 n ≡ sumFrom (λ i. g (slotBytes s i)) k n
   part-sum g = sum-same _ _ 0 k n (part-agree g)
 
 module _ (s : Bytes) (k lo hi : ℕ) (el : bytes 8 lo ≡ take 8 (drop (2 * k) s)) (eh : bytes 8 hi ≡ take 8 (drop (2 * k + 8) s)) where
   block-is : bytes 8 lo ++ bytes 8 hi ≡ take 16 (drop (2 * k) s)
   block-is = (λ i. el i ++ (eh ∙ ap (take 8) (sym (drop-drop 8 (2 * k) s))) i) ∙ sym (take-add 8 8 (drop (2 * k) s))
 
-  pub slots-agree : (g : Bytes → ℕ) → Agree (λ i. g (slotOf (bytes 8 lo ++ bytes 8 hi) i)) (λ i. g (slotOf s i)) 0 k 8
+  pub slots-agree : (g : Bytes → ℕ) → Agree (λ i. g (slotBytes (bytes 8 lo ++ bytes 8 hi) i)) (λ i. g (slotBytes s i)) 0 k 8
   slots-agree = part-agree s k 8 (bytes 8 lo ++ bytes 8 hi) block-is
 
   pub block-strides : (kd : Kind) → totalStrides kd (bytes 8 lo ++ bytes 8 hi) ≡ inlineStrides kd s k 8

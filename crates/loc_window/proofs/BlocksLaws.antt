@@ -24,7 +24,7 @@ use Rattle.loc_window.specs.declared.Sums.{Sums}
 use Rattle.loc_window.specs.declared.Step.{Step}
 use Rattle.loc_window.specs.declared.Step.the-variants.{Next, Lack}
 use Rattle.loc_window.specs.Block.{totalStrides, totalSpans, rowMask, sumFrom, inlineStrides, inlineSpans}
-use Rattle.loc_window.specs.Window.{placed, complete, Passed, Rising, After, sumsOf, plusValue, FoundRow, slotOf, BlockReady, BlockStepped, Swapping, Unmarked, BlocksAfter, PlainBlocks, BlocksPassed}
+use Rattle.loc_window.specs.Window.{windowAreas, complete, Passed, Rising, After, sumsOf, plusValue, FoundRow, slotBytes, BlockReady, BlockStepped, Swapping, Unmarked, BlocksAfter, PlainBlocks, BlocksPassed}
 use Rattle.loc_window.proofs.BlockLaws.{block-strides, block-spans}
 use Rattle.loc_window.proofs.MaskLaws.{block-mask, mask-none, mask-first, mask-low, First}
 use Rattle.loc_window.proofs.SumLaws.{all-more, passed-more, after-at, step-inline, step-row, lacks-row}
@@ -62,14 +62,14 @@ sum-at g j n z h =
 module _ (k : Kind) (f : ℕ) (bytes rows : Bytes) where
   -- none of n records from record j on needs a row
   abbrev Plain : ℕ → ℕ → Type 0
-  Plain j n = (i : ℕ) → j ≤ i → i < j + n → needsRow k (slotOf bytes i) ≡ false
+  Plain j n = (i : ℕ) → j ≤ i → i < j + n → needsRow k (slotBytes bytes i) ≡ false
 
   after-plain : (n j block : ℕ) (s : Sums) → After k f bytes rows j s → Plain j n → inlineStrides k bytes j n < 2 ^ 32 → inlineSpans k bytes j n < 2 ^ 32
       → After k f bytes rows (j + n) (sumsOf (s .strides + inlineStrides k bytes j n) (s .spans + inlineSpans k bytes j n) (s .row) block)
   unfolding sumFrom
   after-plain zero j block s w p hs hp = rw (add-zero j, add-zero (s .strides), add-zero (s .spans)) (after-at k f bytes rows j block s w)
   after-plain (suc n) j block s w p hs hp =
-      let v : Value = inline k (slotOf bytes j) in
+      let v : Value = inline k (slotBytes bytes j) in
       let t : Sums = plusValue s v (s .row) in
       let e : j + 1 + n ≡ j + suc n = omega arith in
       let a : After k f bytes rows (j + 1) t = step-inline k f bytes rows j s t v (p j (omega arith) (omega arith)) w refl refl (omega arith) (omega arith) in
@@ -126,8 +126,8 @@ module _ (k : Kind) (s : Bytes) (mark : List ℕ) (stamp full : ℕ) (a : Sums) 
       record {
         more = omega (arith, w .more);
         inside = omega arith;
-        isStrides = omega (arith, w .isStrides, ex, words-strides k s b lo hi el eh, longer (λ i. inline k (slotOf s i) .strides));
-        isSpans = omega (arith, w .isSpans, ey, words-spans k s b lo hi el eh, longer (λ i. inline k (slotOf s i) .spans));
+        isStrides = omega (arith, w .isStrides, ex, words-strides k s b lo hi el eh, longer (λ i. inline k (slotBytes s i) .strides));
+        isSpans = omega (arith, w .isSpans, ey, words-spans k s b lo hi el eh, longer (λ i. inline k (slotBytes s i) .spans));
         sameRow = refl;
         stridesFew = omega (arith, w .stridesFew, w .more);
         spansFew = omega (arith, w .spansFew, w .more);
@@ -142,10 +142,10 @@ module _ (k : Kind) (s : Bytes) (mark : List ℕ) (stamp full : ℕ) (a : Sums) 
           ap (sumFrom g (8 * a .block)) p ∙ sum-split g (8 * a .block) (8 * (b - a .block)) 8
           ∙ ap (λ (n : ℕ). sumFrom g (8 * a .block) (8 * (b - a .block)) + sumFrom g n 8) q
 
-      plain : (i : ℕ) → 8 * a .block ≤ i → i < 8 * (b + 1) → needsRow k (slotOf s i) ≡ false
+      plain : (i : ℕ) → 8 * a .block ≤ i → i < 8 * (b + 1) → needsRow k (slotBytes s i) ≡ false
       plain i g l = go (decLe (8 * b) i)
         where
-          go : Dec (8 * b ≤ i) → needsRow k (slotOf s i) ≡ false
+          go : Dec (8 * b ≤ i) → needsRow k (slotBytes s i) ≡ false
           go (yes d) = mask-none k s (8 * b) 8 (sym (words-mask k s b lo hi el eh) ∙ z) i d (omega arith)
           go (no d) = w .plain i g (omega arith)
 
@@ -161,9 +161,9 @@ module _ (k : Kind) (f : ℕ) (bytes rows : Bytes) (block : ℕ) (step : Step) (
       go : (u .block ≡ block + 1) × After k f bytes rows (8 * (block + 1)) u → (u .block ≡ block + 1) × After k f bytes rows (8 * u .block) u
       go (q, a) = (q, subst (λ (n : ℕ). After k f bytes rows (8 * n) u) (sym q) a)
 
-  pub stepped-lack : (full : ℕ) → step ≡ Lack → block < full → complete k (placed f bytes rows) f (8 * full) ≡ false
+  pub stepped-lack : (full : ℕ) → step ≡ Lack → block < full → complete k (windowAreas f bytes rows) f (8 * full) ≡ false
   stepped-lack full e h =
-      all-more (λ i. has (lookupAt k (placed f bytes rows) i)) f (8 * (block + 1)) (8 * full) (subst (BlockStepped k f bytes rows block) e v) (omega arith)
+      all-more (λ i. has (lookupAt k (windowAreas f bytes rows) i)) f (8 * (block + 1)) (8 * full) (subst (BlockStepped k f bytes rows block) e v) (omega arith)
 
 module _ (k : Kind) (f : ℕ) (bytes rows : Bytes) (mark : List ℕ) (stamp full : ℕ) where
   -- the sums after them
@@ -171,7 +171,7 @@ module _ (k : Kind) (f : ℕ) (bytes rows : Bytes) (mark : List ℕ) (stamp full
   plain-after s r h w p =
       let n : ℕ = 8 * (r .block - s .block) in
       let e : 8 * s .block + n ≡ 8 * r .block = omega (arith, p .more) in
-      let q : (i : ℕ) → 8 * s .block ≤ i → i < 8 * s .block + n → needsRow k (slotOf bytes i) ≡ false = λ i g l. p .plain i g (omega arith) in
+      let q : (i : ℕ) → 8 * s .block ≤ i → i < 8 * s .block + n → needsRow k (slotBytes bytes i) ≡ false = λ i g l. p .plain i g (omega arith) in
       let hx : inlineStrides k bytes (8 * s .block) n < 2 ^ 32 = omega (arith, p .isStrides, p .stridesFew, p .inside) in
       let hy : inlineSpans k bytes (8 * s .block) n < 2 ^ 32 = omega (arith, p .isSpans, p .spansFew, p .inside) in
       subst (λ (m : ℕ). After k f bytes rows m r) e
@@ -227,12 +227,12 @@ module _ (k : Kind) (f : ℕ) (bytes rows : Bytes) (mark : List ℕ) (stamp full
 -- ---- rows put in place of bytes
 
 -- a paired record's bytes
-pub pair-bytes : (s : Bytes) (j : ℕ) → (inline Paired (slotOf s j) .strides ≡ byte (2 * j) s) × (inline Paired (slotOf s j) .spans ≡ byte (2 * j + 1) s)
+pub pair-bytes : (s : Bytes) (j : ℕ) → (inline Paired (slotBytes s j) .strides ≡ byte (2 * j) s) × (inline Paired (slotBytes s j) .spans ≡ byte (2 * j + 1) s)
 unfolding inline
 pair-bytes s j = (refl, refl)
 
 -- a single record that needs a row has no byte but 0
-pub single-empty : (s : Bytes) (j : ℕ) → needsRow Single (slotOf s j) ≡ true → (inline Single (slotOf s j) .strides ≡ 0) × (inline Single (slotOf s j) .spans ≡ 0)
+pub single-empty : (s : Bytes) (j : ℕ) → needsRow Single (slotBytes s j) ≡ true → (inline Single (slotBytes s j) .strides ≡ 0) × (inline Single (slotBytes s j) .spans ≡ 0)
 unfolding inline needsRow
 single-empty s j e =
     let x : byte (2 * j) s ≡ 0 = eqb-true (byte (2 * j) s) 0 (both-left (eqb (byte (2 * j) s) 0) (eqb (byte (2 * j + 1) s) 0) e) in
@@ -280,11 +280,11 @@ module _ (k : Kind) (f : ℕ) (s rows : Bytes) where
     parts : (g : ℕ → ℕ) → sumFrom g j n ≡ sumFrom g j z + (g (j + z) + sumFrom g (j + z + 1) (n - z - 1))
     parts g = sum-at g j n z (first .0)
 
-    strides-parts : inlineStrides k s j n ≡ inlineStrides k s j z + (inline k (slotOf s (j + z)) .strides + inlineStrides k s (j + z + 1) (n - z - 1))
-    strides-parts = parts (λ i. inline k (slotOf s i) .strides)
+    strides-parts : inlineStrides k s j n ≡ inlineStrides k s j z + (inline k (slotBytes s (j + z)) .strides + inlineStrides k s (j + z + 1) (n - z - 1))
+    strides-parts = parts (λ i. inline k (slotBytes s i) .strides)
 
-    spans-parts : inlineSpans k s j n ≡ inlineSpans k s j z + (inline k (slotOf s (j + z)) .spans + inlineSpans k s (j + z + 1) (n - z - 1))
-    spans-parts = parts (λ i. inline k (slotOf s i) .spans)
+    spans-parts : inlineSpans k s j n ≡ inlineSpans k s j z + (inline k (slotBytes s (j + z)) .spans + inlineSpans k s (j + z + 1) (n - z - 1))
+    spans-parts = parts (λ i. inline k (slotBytes s i) .spans)
 
     at : After k f s rows (j + z) (sumsOf (w .strides + inlineStrides k s j z) (w .spans + inlineSpans k s j z) row 0)
     at =
@@ -294,28 +294,28 @@ module _ (k : Kind) (f : ℕ) (s rows : Bytes) where
     pub swap-in : z < n
     swap-in = first .0
 
-    pub swap-needs : needsRow k (slotOf s (j + z)) ≡ true
+    pub swap-needs : needsRow k (slotBytes s (j + z)) ≡ true
     swap-needs = first .2
 
     pub swap-passed : (id : ℕ) → f + (j + z) ≤ id → Passed (rowList k rows) row id
     swap-passed id l = passed-more k f s rows row (f + (j + z)) id l (at .passed)
 
     -- the sums hold its bytes, and are small
-    pub swap-holds : (inline k (slotOf s (j + z)) .strides ≤ x) × (inline k (slotOf s (j + z)) .spans ≤ y)
+    pub swap-holds : (inline k (slotBytes s (j + z)) .strides ≤ x) × (inline k (slotBytes s (j + z)) .spans ≤ y)
     swap-holds = (omega (arith, w .isStrides, strides-parts), omega (arith, w .isSpans, spans-parts))
 
     pub swap-small : j ≤ 1024 → (x < 2 ^ 44) × (y < 2 ^ 44)
     swap-small l = (omega (arith, w .isStrides, w .stridesFew, w .after .stridesLow), omega (arith, w .isSpans, w .spansFew, w .after .spansLow))
 
     module _ (count id r : ℕ) (rise : Rising k rows count) (ei : id ≡ f + suc (j + z)) (found : FoundRow k rows count id r) where
-      pub swap-lack : (m : ℕ) → r ≡ count → j + n ≤ m → complete k (placed f s rows) f m ≡ false
+      pub swap-lack : (m : ℕ) → r ≡ count → j + n ≤ m → complete k (windowAreas f s rows) f m ≡ false
       swap-lack m e l =
-          all-more (λ i. has (lookupAt k (placed f s rows) i)) f (j + z + 1) m (lacks-row k f s rows (j + z) id (rise .ascend) (first .2) ei (found .missing e))
+          all-more (λ i. has (lookupAt k (windowAreas f s rows) i)) f (j + z + 1) m (lacks-row k f s rows (j + z) id (rise .ascend) (first .2) ei (found .missing e))
           (omega (arith, first .0))
 
       -- its row's values in place of its bytes
       pub swap-next : (v : Value) (x′ y′ left′ j′ n′ : ℕ) → r < count → v ≡ rowValue k (getD (rowList k rows) r []) → v .strides < 2 ^ 32 → v .spans < 2 ^ 32
-          → x′ + inline k (slotOf s (j + z)) .strides ≡ x + v .strides → y′ + inline k (slotOf s (j + z)) .spans ≡ y + v .spans
+          → x′ + inline k (slotBytes s (j + z)) .strides ≡ x + v .strides → y′ + inline k (slotBytes s (j + z)) .spans ≡ y + v .spans
           → left′ ≡ left / 2 ^ (z + 1) → j′ ≡ j + z + 1 → n′ ≡ n - z - 1 → Swapping k f s rows j′ n′ x′ y′ (r + 1) left′
       swap-next v x′ y′ left′ j′ n′ l ev hs hp ex ey el ej en =
           rw (ej, en)

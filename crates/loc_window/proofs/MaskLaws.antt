@@ -19,7 +19,7 @@ use Rattle.loc_leaf.specs.Block.{zeroBit, zeroMask, lowest}
 use Rattle.loc_leaf.specs.Slot.{needsRow}
 use Rattle.loc_leaf.proofs.Booleans.{is?}
 use Rattle.loc_leaf.proofs.Lanes.{byte-mask, carry-mask, bytes-8, carries-8}
-use Rattle.loc_window.specs.Block.{slotOf, rowBit, rowMask}
+use Rattle.loc_window.specs.Block.{slotBytes, rowBit, rowMask}
 use Rattle.loc_window.proofs.BlockLaws.{word-mask, word-parts, low-bytes, two-bytes, Agree, agree-here, agree-next, slots-agree}
 
 -- ---- bits and bytes
@@ -49,7 +49,7 @@ module _ (kd : Kind) (s : Bytes) where
   mask-lt j zero m h = pow-pos m
   mask-lt j (suc n) zero h = absurd (not-suc-le-zero h)
   mask-lt j (suc n) (suc m) h =
-      omega (arith, bit-lt (needsRow kd (slotOf s j)), mask-lt (j + 1) n m (le-of-suc-le-suc h), pow-suc 2 m)
+      omega (arith, bit-lt (needsRow kd (slotBytes s j)), mask-lt (j + 1) n m (le-of-suc-le-suc h), pow-suc 2 m)
 
   pub mask-low : (j n : ℕ) → n ≤ 8 → rowMask kd s j n < 256
   mask-low j n h = mask-lt j n 8 h
@@ -58,48 +58,48 @@ module _ (kd : Kind) (s : Bytes) where
   nibble-low j n h = mask-lt j n 4 h
 
   -- no bit is set: none of the records needs a row
-  pub mask-none : (j n : ℕ) → rowMask kd s j n ≡ 0 → (i : ℕ) → j ≤ i → i < j + n → needsRow kd (slotOf s i) ≡ false
+  pub mask-none : (j n : ℕ) → rowMask kd s j n ≡ 0 → (i : ℕ) → j ≤ i → i < j + n → needsRow kd (slotBytes s i) ≡ false
   unfolding rowMask
   mask-none j zero e i h l = absurd (omega arith)
   mask-none j (suc n) e i h l = go (is? (ltb j i)) (λ p q. mask-none (j + 1) n (omega arith) i p q)
     where
-      go : (ltb j i ≡ true) ⊎ (ltb j i ≡ false) → (j + 1 ≤ i → i < j + 1 + n → needsRow kd (slotOf s i) ≡ false) → needsRow kd (slotOf s i) ≡ false
+      go : (ltb j i ≡ true) ⊎ (ltb j i ≡ false) → (j + 1 ≤ i → i < j + 1 + n → needsRow kd (slotBytes s i) ≡ false) → needsRow kd (slotBytes s i) ≡ false
       go (inl t) more = more (omega (arith, ltb-true j i t)) (omega arith)
       go (inr t) more =
           let q : j ≡ i = omega (arith, ltb-false j i t) in
-          subst (λ (m : ℕ). needsRow kd (slotOf s m) ≡ false) q (bit-zero (needsRow kd (slotOf s j)) (omega arith))
+          subst (λ (m : ℕ). needsRow kd (slotBytes s m) ≡ false) q (bit-zero (needsRow kd (slotBytes s j)) (omega arith))
 
   -- record j + z is the first of n that needs a row, and the mask of the records after it stands above its bit
   abbrev pub First : ℕ → ℕ → ℕ → Type 0
   First j n z =
-      (z < n) × ((i : ℕ) → j ≤ i → i < j + z → needsRow kd (slotOf s i) ≡ false) × (needsRow kd (slotOf s (j + z)) ≡ true)
+      (z < n) × ((i : ℕ) → j ≤ i → i < j + z → needsRow kd (slotBytes s i) ≡ false) × (needsRow kd (slotBytes s (j + z)) ≡ true)
       × (rowMask kd s j n / 2 ^ (z + 1) ≡ rowMask kd s (j + z + 1) (n - z - 1))
 
   mask-odd : (j n : ℕ) → rowMask kd s j (suc n) % 2 ≡ rowBit kd s j
   unfolding rowMask
-  mask-odd j n = omega (arith, bit-lt (needsRow kd (slotOf s j)))
+  mask-odd j n = omega (arith, bit-lt (needsRow kd (slotBytes s j)))
 
   mask-half : (j n : ℕ) → rowMask kd s j (suc n) / 2 ≡ rowMask kd s (j + 1) n
   unfolding rowMask
-  mask-half j n = omega (arith, bit-lt (needsRow kd (slotOf s j)))
+  mask-half j n = omega (arith, bit-lt (needsRow kd (slotBytes s j)))
 
-  first-here : (j n z : ℕ) → needsRow kd (slotOf s j) ≡ true → z ≡ 0 → First j (suc n) z
+  first-here : (j n z : ℕ) → needsRow kd (slotBytes s j) ≡ true → z ≡ 0 → First j (suc n) z
   first-here j n z b e =
       let l : n ≡ suc n - 0 - 1 = omega arith in
       rw (e, add-zero j) ((omega arith, λ i h l. absurd (omega arith), b, mask-half j n ∙ ap (rowMask kd s (j + 1)) l))
 
-  first-next : (j n y z : ℕ) → needsRow kd (slotOf s j) ≡ false → z ≡ suc y → First (j + 1) n y → First j (suc n) z
-  first-next j n y z b e f = rw e ((omega (arith, f .0), before, subst (λ (t : ℕ). needsRow kd (slotOf s t) ≡ true) at (f .2), above))
+  first-next : (j n y z : ℕ) → needsRow kd (slotBytes s j) ≡ false → z ≡ suc y → First (j + 1) n y → First j (suc n) z
+  first-next j n y z b e f = rw e ((omega (arith, f .0), before, subst (λ (t : ℕ). needsRow kd (slotBytes s t) ≡ true) at (f .2), above))
     where
       at : j + 1 + y ≡ j + suc y
       at = omega arith
 
-      before : (i : ℕ) → j ≤ i → i < j + suc y → needsRow kd (slotOf s i) ≡ false
+      before : (i : ℕ) → j ≤ i → i < j + suc y → needsRow kd (slotBytes s i) ≡ false
       before i h l = go (is? (ltb j i))
         where
-          go : (ltb j i ≡ true) ⊎ (ltb j i ≡ false) → needsRow kd (slotOf s i) ≡ false
+          go : (ltb j i ≡ true) ⊎ (ltb j i ≡ false) → needsRow kd (slotBytes s i) ≡ false
           go (inl t) = f .1 i (omega (arith, ltb-true j i t)) (omega arith)
-          go (inr t) = let q : j ≡ i = omega (arith, ltb-false j i t) in subst (λ (m : ℕ). needsRow kd (slotOf s m) ≡ false) q b
+          go (inr t) = let q : j ≡ i = omega (arith, ltb-false j i t) in subst (λ (m : ℕ). needsRow kd (slotBytes s m) ≡ false) q b
 
       above : rowMask kd s j (suc n) / 2 ^ (suc y + 1) ≡ rowMask kd s (j + suc y + 1) (suc n - suc y - 1)
       above =
@@ -112,14 +112,14 @@ module _ (kd : Kind) (s : Bytes) where
   unfolding lowest rowMask
   first-of u j zero h f = absurd (f refl)
   first-of zero j (suc n) h f = absurd (not-suc-le-zero h)
-  first-of (suc u) j (suc n) h f = go (is? (needsRow kd (slotOf s j))) (first-of u (j + 1) n (le-of-suc-le-suc h))
+  first-of (suc u) j (suc n) h f = go (is? (needsRow kd (slotBytes s j))) (first-of u (j + 1) n (le-of-suc-le-suc h))
     where
-      low-is : (b : Bool) → needsRow kd (slotOf s j) ≡ b → lowest (suc u) (rowMask kd s j (suc n)) ≡ cond (eqb (cond b 1 0) 1) 0 (suc (lowest u (rowMask kd s (j + 1) n)))
+      low-is : (b : Bool) → needsRow kd (slotBytes s j) ≡ b → lowest (suc u) (rowMask kd s j (suc n)) ≡ cond (eqb (cond b 1 0) 1) 0 (suc (lowest u (rowMask kd s (j + 1) n)))
       low-is b t =
           let o : rowMask kd s j (suc n) % 2 ≡ cond b 1 0 = mask-odd j n ∙ ap (λ (c : Bool). cond c 1 0) t in
           (λ i. cond (eqb (o i) 1) 0 (suc (lowest u (mask-half j n i))))
 
-      go : (needsRow kd (slotOf s j) ≡ true) ⊎ (needsRow kd (slotOf s j) ≡ false)
+      go : (needsRow kd (slotBytes s j) ≡ true) ⊎ (needsRow kd (slotBytes s j) ≡ false)
           → ((rowMask kd s (j + 1) n ≡ 0 → ⊥) → First (j + 1) n (lowest u (rowMask kd s (j + 1) n)))
           → First j (suc n) (lowest (suc u) (rowMask kd s j (suc n)))
       go (inl t) more = first-here j n (lowest (suc u) (rowMask kd s j (suc n))) t (low-is true t)
@@ -252,8 +252,8 @@ module _ (w a b : ℕ) (even : Even w a) (odd : Even (w / 2 ^ 16) b) where
 
   pub nibble-is : bitAnd (beside a b + beside a b / 2 ^ 30) 15 ≡ rowMask Single (bytes 8 w) 0 4
   unfolding rowMask
-  nibble-is = gathered a b _ _ _ _ (bit-lt (needsRow Single (slotOf (bytes 8 w) 0))) (bit-lt (needsRow Single (slotOf (bytes 8 w) 1)))
-      (bit-lt (needsRow Single (slotOf (bytes 8 w) 2))) (bit-lt (needsRow Single (slotOf (bytes 8 w) 3))) even odd-is
+  nibble-is = gathered a b _ _ _ _ (bit-lt (needsRow Single (slotBytes (bytes 8 w) 0))) (bit-lt (needsRow Single (slotBytes (bytes 8 w) 1)))
+      (bit-lt (needsRow Single (slotBytes (bytes 8 w) 2))) (bit-lt (needsRow Single (slotBytes (bytes 8 w) 3))) even odd-is
 
 pub none-empty-mask : (lo hi a b c d : ℕ) → Even lo a → Even (lo / 2 ^ 16) b → Even hi c → Even (hi / 2 ^ 16) d
     → bitAnd (bitAnd (bitAnd a b) c) d ≡ word-carries → rowMask Single (bytes 8 lo ++ bytes 8 hi) 0 8 ≡ 0

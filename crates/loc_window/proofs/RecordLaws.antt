@@ -16,7 +16,7 @@ use Rattle.loc_leaf.specs.Rows.{rowList, rowValue}
 use Rattle.loc_calls.specs.Reading.{lookupAt, has}
 use Rattle.loc_window.specs.declared.Sums.{Sums}
 use Rattle.loc_window.specs.declared.Step.the-variants.{Next}
-use Rattle.loc_window.specs.Window.{placed, complete, Passed, Rising, After, sumsOf, slotOf, FoundRow, Written, Recorded}
+use Rattle.loc_window.specs.Window.{windowAreas, complete, Passed, Rising, After, sumsOf, slotBytes, FoundRow, Written, Recorded}
 use Rattle.loc_window.proofs.SumLaws.{all-more, passed-more, step-inline, step-row, lacks-row, written-next, written-whole}
 
 module _ (k : Kind) (f : ℕ) (bytes rows : Bytes) where
@@ -25,11 +25,11 @@ module _ (k : Kind) (f : ℕ) (bytes rows : Bytes) where
   passed-next-record n id s e w = passed-more k f bytes rows (s .row) (f + n) id (omega arith) (w .passed)
 
   -- by its slot
-  inline-more : (n x y row block : ℕ) (b : Bool) (v : Value) → b ≡ needsRow k (slotOf bytes n) → b ≡ false → v ≡ inline k (slotOf bytes n) → v .strides < 2 ^ 32 → v .spans < 2 ^ 32
+  inline-more : (n x y row block : ℕ) (b : Bool) (v : Value) → b ≡ needsRow k (slotBytes bytes n) → b ≡ false → v ≡ inline k (slotBytes bytes n) → v .strides < 2 ^ 32 → v .spans < 2 ^ 32
       → After k f bytes rows n (sumsOf x y row block) → After k f bytes rows (n + 1) (sumsOf (x + v .strides) (y + v .spans) row block)
   inline-more n x y row block b v e plain ev hs hp w = step-inline k f bytes rows n (sumsOf x y row block) (sumsOf (x + v .strides) (y + v .spans) row block) v (sym e ∙ plain) w ev refl hs hp
 
-  module _ (count n id r : ℕ) (b : Bool) (rise : Rising k rows count) (e : b ≡ needsRow k (slotOf bytes n)) (taken : b ≡ true) (ei : id ≡ f + n + 1) (found : FoundRow k rows count id r) where
+  module _ (count n id r : ℕ) (b : Bool) (rise : Rising k rows count) (e : b ≡ needsRow k (slotBytes bytes n)) (taken : b ≡ true) (ei : id ≡ f + n + 1) (found : FoundRow k rows count id r) where
     -- by its row
     pub row-more : (x y row block : ℕ) (v : Value) → (r ≡ count → ⊥) → v ≡ rowValue k (getD (rowList k rows) r []) → v .strides < 2 ^ 32 → v .spans < 2 ^ 32
         → After k f bytes rows n (sumsOf x y row block) → After k f bytes rows (n + 1) (sumsOf (x + v .strides) (y + v .spans) (r + 1) block)
@@ -37,9 +37,9 @@ module _ (k : Kind) (f : ℕ) (bytes rows : Bytes) where
         step-row k f bytes rows n id (rise .ascend) (sym e ∙ taken) (omega arith) r (sumsOf x y row block) v w (found .there (omega (arith, found .inside, other))) ev hs hp
 
     -- without its row, before record m
-    pub row-lacking : (m : ℕ) → n < m → r ≡ count → complete k (placed f bytes rows) f m ≡ false
+    pub row-lacking : (m : ℕ) → n < m → r ≡ count → complete k (windowAreas f bytes rows) f m ≡ false
     row-lacking m h same =
-        all-more (λ i. has (lookupAt k (placed f bytes rows) i)) f (n + 1) m (lacks-row k f bytes rows n id (rise .ascend) (sym e ∙ taken) (omega arith) (found .missing same)) (omega arith)
+        all-more (λ i. has (lookupAt k (windowAreas f bytes rows) i)) f (n + 1) m (lacks-row k f bytes rows n id (rise .ascend) (sym e ∙ taken) (omega arith) (found .missing same)) (omega arith)
 
   -- the same sums, as the loop holds them
   pub sums-held : (n x y row x′ y′ row′ block : ℕ) → x ≡ x′ → y ≡ y′ → row ≡ row′ → After k f bytes rows n (sumsOf x′ y′ row′ block) → After k f bytes rows n (sumsOf x y row block)
@@ -69,18 +69,18 @@ module _ (k : Kind) (f : ℕ) (bytes rows : Bytes) where
 
 module _ (f : ℕ) (bytes rows : Bytes) where
   -- a paired record by its two bytes
-  pub pair-inline : (n x y row block : ℕ) (b : Bool) → b ≡ needsRow Paired (slotOf bytes n) → b ≡ false → byte (2 * n) bytes < 256 → byte (2 * n + 1) bytes < 256
+  pub pair-inline : (n x y row block : ℕ) (b : Bool) → b ≡ needsRow Paired (slotBytes bytes n) → b ≡ false → byte (2 * n) bytes < 256 → byte (2 * n + 1) bytes < 256
       → After Paired f bytes rows n (sumsOf x y row block) → After Paired f bytes rows (n + 1) (sumsOf (x + byte (2 * n) bytes) (y + byte (2 * n + 1) bytes) row block)
   unfolding inline
-  pair-inline n x y row block b e plain hl hh w = inline-more Paired f bytes rows n x y row block b (inline Paired (slotOf bytes n)) e plain refl (omega arith) (omega arith) w
+  pair-inline n x y row block b e plain hl hh w = inline-more Paired f bytes rows n x y row block b (inline Paired (slotBytes bytes n)) e plain refl (omega arith) (omega arith) w
 
   -- a single record by its two bytes
-  pub single-inline : (n x y row block : ℕ) (b : Bool) → b ≡ needsRow Single (slotOf bytes n) → b ≡ false → byte (2 * n) bytes < 256 → byte (2 * n + 1) bytes < 256
+  pub single-inline : (n x y row block : ℕ) (b : Bool) → b ≡ needsRow Single (slotBytes bytes n) → b ≡ false → byte (2 * n) bytes < 256 → byte (2 * n + 1) bytes < 256
       → After Single f bytes rows n (sumsOf x y row block) → After Single f bytes rows (n + 1) (sumsOf (x + (byte (2 * n) bytes + 256 * byte (2 * n + 1) bytes)) y row block)
   unfolding inline
   single-inline n x y row block b e plain hl hh w =
       subst (λ (i : ℕ). After Single f bytes rows (n + 1) (sumsOf (x + (byte (2 * n) bytes + 256 * byte (2 * n + 1) bytes)) i row block)) (add-zero y)
-      (inline-more Single f bytes rows n x y row block b (inline Single (slotOf bytes n)) e plain refl (omega arith) (omega arith) w)
+      (inline-more Single f bytes rows n x y row block b (inline Single (slotBytes bytes n)) e plain refl (omega arith) (omega arith) w)
 
   -- the value of a single row has no spans
   pub single-row : (n x y row block : ℕ) (v : Value) (r : Bytes) → v ≡ rowValue Single r → After Single f bytes rows n (sumsOf x (y + v .spans) row block)

@@ -16,7 +16,7 @@ use Rattle.loc_calls.specs.Reading.{lookupAt, has}
 use Rattle.loc_window.specs.declared.Sums.{Sums}
 use Rattle.loc_window.specs.declared.Step.{Step}
 use Rattle.loc_window.specs.declared.Step.the-variants.{Next, Lack}
-use Rattle.loc_window.specs.Window.{placed, complete, After, sumsOf, Right, Written, Recorded, Ready, BlockReady, Unmarked, BlocksAfter, BlocksPassed, Stored, SlotStepped, Copied}
+use Rattle.loc_window.specs.Window.{windowAreas, complete, After, sumsOf, Right, Written, Recorded, Ready, BlockReady, Unmarked, BlocksAfter, BlocksPassed, SumsStored, SlotStepped, Copied}
 use Rattle.loc_window.proofs.SumLaws.{all-more, after-at, right-same}
 
 module _ (k j : Kind) (e : k ≡ j) (f : ℕ) (bytes rows : Bytes) where
@@ -83,8 +83,8 @@ module _ (k : Kind) (f : ℕ) (bytes rows : Bytes) where
       }
 
   module _ (mark : List ℕ) (stamp : ℕ) where
-    stored-written : (n n′ : ℕ) (body span body′ span′ : List ℕ) → Stored k f bytes rows mark stamp n body span → Written k f bytes rows n n′ body span body′ span′
-        → Stored k f bytes rows mark stamp n′ body′ span′
+    stored-written : (n n′ : ℕ) (body span body′ span′ : List ℕ) → SumsStored k f bytes rows mark stamp n body span → Written k f bytes rows n n′ body span body′ span′
+        → SumsStored k f bytes rows mark stamp n′ body′ span′
     stored-written n n′ body span body′ span′ w v = record { here = here; next = next }
       where
         kept : (j : ℕ) → j < n → Right k f bytes rows j body span → Right k f bytes rows j body′ span′
@@ -105,8 +105,8 @@ module _ (k : Kind) (f : ℕ) (bytes rows : Bytes) where
             go (no g) = kept (j + 1) (omega arith) (w .next j (omega arith) e)
 
     -- blocks that are not marked ask for no sums
-    pub stored-unmarked : (block to : ℕ) (body span : List ℕ) → Unmarked mark stamp block to → Stored k f bytes rows mark stamp (8 * block) body span
-        → Stored k f bytes rows mark stamp (8 * to) body span
+    pub stored-unmarked : (block to : ℕ) (body span : List ℕ) → Unmarked mark stamp block to → SumsStored k f bytes rows mark stamp (8 * block) body span
+        → SumsStored k f bytes rows mark stamp (8 * to) body span
     stored-unmarked block to body span u w = record { here = λ j h e. w .here j (before j h e) e; next = λ j h e. w .next j (before j h e) e }
       where
         before : (j : ℕ) → j < 8 * to → getD mark (j / 8) 0 ≡ stamp → j < 8 * block
@@ -117,33 +117,33 @@ module _ (k : Kind) (f : ℕ) (bytes rows : Bytes) where
             go (no g) = omega arith
 
     -- marked blocks, record by record
-    step-recorded : (block end m n : ℕ) (body span body′ span′ : List ℕ) (r : Step) → Stored k f bytes rows mark stamp (8 * block) body span → block < end → 8 * end < m + 8
+    step-recorded : (block end m n : ℕ) (body span body′ span′ : List ℕ) (r : Step) → SumsStored k f bytes rows mark stamp (8 * block) body span → block < end → 8 * end < m + 8
         → n ≡ min (8 * end) m → Recorded k f bytes rows end (8 * block) n body span body′ span′ r → SlotStepped k f bytes rows mark stamp block m body′ span′ r
     step-recorded block end m n body span body′ span′ (Next s) w h g e v = (
       omega (arith, v .0),
       omega (arith, v .0),
       subst (λ (i : ℕ). After k f bytes rows i s) q (v .1),
-      subst (λ (i : ℕ). Stored k f bytes rows mark stamp i body′ span′) q (stored-written (8 * block) n body span body′ span′ w (v .2)),
+      subst (λ (i : ℕ). SumsStored k f bytes rows mark stamp i body′ span′) q (stored-written (8 * block) n body span body′ span′ w (v .2)),
     )
       where
         q : n ≡ min (8 * s .block) m
         q = omega (arith, v .0)
-    step-recorded block end m n body span body′ span′ Lack w h g e v = all-more (λ i. has (lookupAt k (placed f bytes rows) i)) f n m v (omega arith)
+    step-recorded block end m n body span body′ span′ Lack w h g e v = all-more (λ i. has (lookupAt k (windowAreas f bytes rows) i)) f n m v (omega arith)
 
     -- the same by the arm of the kind
-    pub step-arm : (j : Kind) → k ≡ j → (block end m n : ℕ) (body span body′ span′ : List ℕ) (r : Step) → Stored k f bytes rows mark stamp (8 * block) body span → block < end → 8 * end < m + 8
+    pub step-arm : (j : Kind) → k ≡ j → (block end m n : ℕ) (body span body′ span′ : List ℕ) (r : Step) → SumsStored k f bytes rows mark stamp (8 * block) body span → block < end → 8 * end < m + 8
         → n ≡ min (8 * end) m → Recorded j f bytes rows end (8 * block) n body span body′ span′ r → SlotStepped k f bytes rows mark stamp block m body′ span′ r
     step-arm j q block end m n body span body′ span′ r w h g e v =
         step-recorded block end m n body span body′ span′ r w h g e (subst (λ (i : Kind). Recorded i f bytes rows end (8 * block) n body span body′ span′ r) (sym q) v)
 
     -- blocks that are not marked, to the end
-    pub step-passed : (block m : ℕ) (t : Sums) (body span : List ℕ) → BlocksAfter k f bytes rows mark stamp block (m / 8) t → Stored k f bytes rows mark stamp (8 * block) body span
+    pub step-passed : (block m : ℕ) (t : Sums) (body span : List ℕ) → BlocksAfter k f bytes rows mark stamp block (m / 8) t → SumsStored k f bytes rows mark stamp (8 * block) body span
         → 8 * block < m → m ≤ 8 * t .block → SlotStepped k f bytes rows mark stamp block m body span (Next t)
     step-passed block m t body span b w h g = (
       omega arith,
       omega (arith, b .inside),
       subst (λ (i : ℕ). After k f bytes rows i t) q (b .after),
-      subst (λ (i : ℕ). Stored k f bytes rows mark stamp i body span) q (stored-unmarked block (t .block) body span (b .unmarked) w),
+      subst (λ (i : ℕ). SumsStored k f bytes rows mark stamp i body span) q (stored-unmarked block (t .block) body span (b .unmarked) w),
     )
       where
         q : 8 * t .block ≡ min (8 * t .block) m
@@ -158,8 +158,8 @@ module _ (k : Kind) (f : ℕ) (bytes rows : Bytes) where
     pub passed-next : (block full : ℕ) (t : Sums) (r : Step) → r ≡ Next t → BlocksPassed k f bytes rows mark stamp block full r → BlocksAfter k f bytes rows mark stamp block full t
     passed-next block full t r e v = subst (BlocksPassed k f bytes rows mark stamp block full) e v
 
-    pub passed-lack : (block m : ℕ) (r : Step) → r ≡ Lack → BlocksPassed k f bytes rows mark stamp block (m / 8) r → complete k (placed f bytes rows) f m ≡ false
-    passed-lack block m r e v = all-more (λ i. has (lookupAt k (placed f bytes rows) i)) f (8 * (m / 8)) m (subst (BlocksPassed k f bytes rows mark stamp block (m / 8)) e v) (omega arith)
+    pub passed-lack : (block m : ℕ) (r : Step) → r ≡ Lack → BlocksPassed k f bytes rows mark stamp block (m / 8) r → complete k (windowAreas f bytes rows) f m ≡ false
+    passed-lack block m r e v = all-more (λ i. has (lookupAt k (windowAreas f bytes rows) i)) f (8 * (m / 8)) m (subst (BlocksPassed k f bytes rows mark stamp block (m / 8)) e v) (omega arith)
 
 -- ---- the copy
 
@@ -180,8 +180,8 @@ copied-next slots at n old new h w = record { front = front; rest = λ u g. getD
 
 module _ (k : Kind) (f : ℕ) (bytes rows : Bytes) (mark : List ℕ) (stamp block m : ℕ) (body span : List ℕ) (r : Step) (v : SlotStepped k f bytes rows mark stamp block m body span r) where
   pub slot-next : (s : Sums) → r ≡ Next s → (block < s .block) × (8 * s .block < m + 8)
-      × After k f bytes rows (min (8 * s .block) m) s × Stored k f bytes rows mark stamp (min (8 * s .block) m) body span
+      × After k f bytes rows (min (8 * s .block) m) s × SumsStored k f bytes rows mark stamp (min (8 * s .block) m) body span
   slot-next s e = subst (SlotStepped k f bytes rows mark stamp block m body span) e v
 
-  pub slot-lack : r ≡ Lack → complete k (placed f bytes rows) f m ≡ false
+  pub slot-lack : r ≡ Lack → complete k (windowAreas f bytes rows) f m ≡ false
   slot-lack e = subst (SlotStepped k f bytes rows mark stamp block m body span) e v

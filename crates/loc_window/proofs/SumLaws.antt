@@ -20,7 +20,7 @@ use Rattle.loc_leaf.specs.Rows.{rowList, rowValue, lookup, slotValue, lookupByH
 use Rattle.loc_leaf.proofs.RowLaws.{lookup-by-halves}
 use Rattle.loc_calls.specs.Reading.{sumAfter, allAfter, lookupAt, has, valueAt, stridesAfter, spansAfter}
 use Rattle.loc_window.specs.declared.Sums.{Sums}
-use Rattle.loc_window.specs.Window.{placed, complete, Passed, After, sumsOf, plusValue, IsRow, slotOf, Right, Written}
+use Rattle.loc_window.specs.Window.{windowAreas, complete, Passed, After, sumsOf, plusValue, IsRow, slotBytes, Right, Written}
 
 -- ---- over the numbers that follow
 
@@ -58,21 +58,21 @@ module _ (k : Kind) (f : ℕ) (bytes rows : Bytes) where
       ∙ getD-drop (16 + 2 * (f + suc j - 1)) (replicate (16 + 2 * f) 0 ++ bytes) t 0
       ∙ ap (λ (n : ℕ). byte n (replicate (16 + 2 * f) 0 ++ bytes)) e ∙ placed-byte (2 * j + t)
 
-  pub lookup-is : (j : ℕ) → lookupAt k (placed f bytes rows) (f + suc j) ≡ slotValue k (rowList k rows) (f + suc j) (slotOf bytes j)
-  unfolding lookupAt placed
+  pub lookup-is : (j : ℕ) → lookupAt k (windowAreas f bytes rows) (f + suc j) ≡ slotValue k (rowList k rows) (f + suc j) (slotBytes bytes j)
+  unfolding lookupAt windowAreas
   lookup-is j =
       slot-two k (rowList k rows) (f + suc j) (slotAt (replicate (16 + 2 * f) 0 ++ bytes) (f + suc j)) (byte (2 * j) bytes) (byte (2 * j + 1) bytes)
       (slot-byte j 0 (omega arith) ∙ ap (λ (n : ℕ). byte n bytes) (add-zero (2 * j))) (slot-byte j 1 (omega arith))
 
-  lookup-inline : (j : ℕ) → needsRow k (slotOf bytes j) ≡ false → lookupAt k (placed f bytes rows) (f + suc j) ≡ Found (inline k (slotOf bytes j))
+  lookup-inline : (j : ℕ) → needsRow k (slotBytes bytes j) ≡ false → lookupAt k (windowAreas f bytes rows) (f + suc j) ≡ Found (inline k (slotBytes bytes j))
   unfolding slotValue
-  lookup-inline j e = lookup-is j ∙ ap (λ (b : Bool). cond b (lookup k (f + suc j) (rowList k rows)) (Found (inline k (slotOf bytes j)))) e
+  lookup-inline j e = lookup-is j ∙ ap (λ (b : Bool). cond b (lookup k (f + suc j) (rowList k rows)) (Found (inline k (slotBytes bytes j)))) e
 
-  lookup-row : (j : ℕ) → ascending 0 (rowList k rows) ≡ true → needsRow k (slotOf bytes j) ≡ true
-      → lookupAt k (placed f bytes rows) (f + suc j) ≡ lookupByHalves k (f + suc j) (rowList k rows)
+  lookup-row : (j : ℕ) → ascending 0 (rowList k rows) ≡ true → needsRow k (slotBytes bytes j) ≡ true
+      → lookupAt k (windowAreas f bytes rows) (f + suc j) ≡ lookupByHalves k (f + suc j) (rowList k rows)
   unfolding slotValue
   lookup-row j a e =
-      lookup-is j ∙ ap (λ (b : Bool). cond b (lookup k (f + suc j) (rowList k rows)) (Found (inline k (slotOf bytes j)))) e
+      lookup-is j ∙ ap (λ (b : Bool). cond b (lookup k (f + suc j) (rowList k rows)) (Found (inline k (slotBytes bytes j)))) e
       ∙ sym (lookup-by-halves k (rowList k rows) a (f + suc j))
 
   -- ---- one record more
@@ -80,12 +80,12 @@ module _ (k : Kind) (f : ℕ) (bytes rows : Bytes) where
   pub passed-more : (p id id′ : ℕ) → id ≤ id′ → Passed (rowList k rows) p id → Passed (rowList k rows) p id′
   passed-more p id id′ h w g i l = omega (arith, w g i l)
 
-  after-next : (n : ℕ) (s : Sums) (v : Value) (row : ℕ) → After k f bytes rows n s → lookupAt k (placed f bytes rows) (f + suc n) ≡ Found v
+  after-next : (n : ℕ) (s : Sums) (v : Value) (row : ℕ) → After k f bytes rows n s → lookupAt k (windowAreas f bytes rows) (f + suc n) ≡ Found v
       → v .strides < 2 ^ 32 → v .spans < 2 ^ 32 → Passed (rowList k rows) row (f + (n + 1)) → After k f bytes rows (n + 1) (plusValue s v row)
   unfolding stridesAfter spansAfter sumAfter valueAt valueIn has
   after-next n s v row w e hs hp p =
       record {
-        known = all-next (λ i. has (lookupAt k (placed f bytes rows) i)) f n true (ap has e) ∙ ap (λ (b : Bool). b && true) (w .known);
+        known = all-next (λ i. has (lookupAt k (windowAreas f bytes rows) i)) f n true (ap has e) ∙ ap (λ (b : Bool). b && true) (w .known);
         isStrides = rw (add-one n, ← w .isStrides, e) refl;
         isSpans = rw (add-one n, ← w .isSpans, e) refl;
         stridesLow = omega (arith, w .stridesLow);
@@ -93,9 +93,9 @@ module _ (k : Kind) (f : ℕ) (bytes rows : Bytes) where
         passed = p;
       }
 
-  lack-next : (n : ℕ) → lookupAt k (placed f bytes rows) (f + suc n) ≡ Missing → complete k (placed f bytes rows) f (n + 1) ≡ false
+  lack-next : (n : ℕ) → lookupAt k (windowAreas f bytes rows) (f + suc n) ≡ Missing → complete k (windowAreas f bytes rows) f (n + 1) ≡ false
   unfolding has
-  lack-next n e = all-next (λ i. has (lookupAt k (placed f bytes rows) i)) f n false (ap has e) ∙ and-false (complete k (placed f bytes rows) f n)
+  lack-next n e = all-next (λ i. has (lookupAt k (windowAreas f bytes rows) i)) f n false (ap has e) ∙ and-false (complete k (windowAreas f bytes rows) f n)
 
   -- the same sums, counted as other blocks
   pub after-at : (n block : ℕ) (s : Sums) → After k f bytes rows n s → After k f bytes rows n (sumsOf (s .strides) (s .spans) (s .row) block)
@@ -114,7 +114,7 @@ module _ (k : Kind) (f : ℕ) (bytes rows : Bytes) where
   after-small n s h w = (omega (arith, w .stridesLow), omega (arith, w .spansLow))
 
   -- a record that needs no row
-  pub step-inline : (n : ℕ) (s t : Sums) (v : Value) (plain : needsRow k (slotOf bytes n) ≡ false) → After k f bytes rows n s → v ≡ inline k (slotOf bytes n)
+  pub step-inline : (n : ℕ) (s t : Sums) (v : Value) (plain : needsRow k (slotBytes bytes n) ≡ false) → After k f bytes rows n s → v ≡ inline k (slotBytes bytes n)
       → t ≡ plusValue s v (s .row) → v .strides < 2 ^ 32 → v .spans < 2 ^ 32 → After k f bytes rows (n + 1) t
   step-inline n s t v plain w ev et hs hp =
       rw et
@@ -122,8 +122,8 @@ module _ (k : Kind) (f : ℕ) (bytes rows : Bytes) where
       (passed-more (s .row) (f + n) (f + (n + 1)) (omega arith) (w .passed)))
 
   -- a record by its row, which is row r
-  module _ (n id : ℕ) (a : ascending 0 (rowList k rows) ≡ true) (needs : needsRow k (slotOf bytes n) ≡ true) (e : id ≡ f + suc n) where
-    by-row : lookupAt k (placed f bytes rows) (f + suc n) ≡ lookupByHalves k id (rowList k rows)
+  module _ (n id : ℕ) (a : ascending 0 (rowList k rows) ≡ true) (needs : needsRow k (slotBytes bytes n) ≡ true) (e : id ≡ f + suc n) where
+    by-row : lookupAt k (windowAreas f bytes rows) (f + suc n) ≡ lookupByHalves k id (rowList k rows)
     by-row = lookup-row n a needs ∙ ap (λ (i : ℕ). lookupByHalves k i (rowList k rows)) (sym e)
 
     pub step-row : (r : ℕ) (s : Sums) (v : Value) → After k f bytes rows n s → IsRow k rows id r → v ≡ rowValue k (getD (rowList k rows) r []) → v .strides < 2 ^ 32 → v .spans < 2 ^ 32
@@ -132,7 +132,7 @@ module _ (k : Kind) (f : ℕ) (bytes rows : Bytes) where
         let q : id ≤ f + (n + 1) = omega arith in
         after-next n s v (r + 1) w (by-row ∙ g .isFound ∙ ap (λ (u : Value). Found u) (sym ev)) hs hp (passed-more (r + 1) id (f + (n + 1)) q (g .passed))
 
-    pub lacks-row : lookupByHalves k id (rowList k rows) ≡ Missing → complete k (placed f bytes rows) f (n + 1) ≡ false
+    pub lacks-row : lookupByHalves k id (rowList k rows) ≡ Missing → complete k (windowAreas f bytes rows) f (n + 1) ≡ false
     lacks-row m = lack-next n (by-row ∙ m)
 
 -- ---- sums that are stored

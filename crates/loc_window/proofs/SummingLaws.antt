@@ -12,7 +12,7 @@ use Rattle.loc_leaf.specs.Rows.{rowList}
 use Rattle.loc_window.specs.declared.Sums.{Sums}
 use Rattle.loc_window.specs.declared.Step.{Step}
 use Rattle.loc_window.specs.declared.Step.the-variants.{Next}
-use Rattle.loc_window.specs.Window.{placed, complete, Passed, Rising, After, sumsOf, Ready, Stored, SlotStepped, Summing}
+use Rattle.loc_window.specs.Window.{windowAreas, complete, Passed, Rising, After, sumsOf, Ready, SumsStored, SlotStepped, Summing}
 use Rattle.loc_window.proofs.SumLaws.{after-at}
 use Rattle.loc_window.proofs.StepLaws.{slot-next}
 use Rattle.loc_window.proofs.WindowLaws.{after-none, stored-none}
@@ -26,7 +26,7 @@ module _ (k : Kind) (long f m : ℕ) (bytes rows : Bytes) (nr : ℕ) (mark : Lis
         bodyLong = e₁;
         spanLong = e₂;
         ready = subst (λ (i : ℕ). Ready k f bytes rows nr i m (sumsOf 0 0 row 0) body span) none ready;
-        stored = subst (λ (i : ℕ). Stored k f bytes rows mark stamp i body span) none (stored-none k f bytes rows mark stamp body span);
+        stored = subst (λ (i : ℕ). SumsStored k f bytes rows mark stamp i body span) none (stored-none k f bytes rows mark stamp body span);
       }
     where
       none : 0 ≡ min (8 * 0) m
@@ -47,10 +47,10 @@ module _ (k : Kind) (long f m : ℕ) (bytes rows : Bytes) (nr : ℕ) (mark : Lis
 
   module _ (block : ℕ) (s : Sums) (body span : List ℕ) (w : Summing k long f m bytes rows nr mark stamp block s body span) where
     pub summing-asks : length mark ≡ 128 → 8 * block < m
-        → ((length mark ≡ 128) × (8 * block < m) × Ready k f bytes rows nr (8 * block) m s body span) × Stored k f bytes rows mark stamp (8 * block) body span
+        → ((length mark ≡ 128) × (8 * block < m) × Ready k f bytes rows nr (8 * block) m s body span) × SumsStored k f bytes rows mark stamp (8 * block) body span
     summing-asks long h = (
       (long, h, subst (λ (i : ℕ). Ready k f bytes rows nr i m s body span) whole (w .ready)),
-      subst (λ (i : ℕ). Stored k f bytes rows mark stamp i body span) whole (w .stored),
+      subst (λ (i : ℕ). SumsStored k f bytes rows mark stamp i body span) whole (w .stored),
     )
       where
         whole : min (8 * block) m ≡ 8 * block
@@ -82,7 +82,7 @@ module _ (k : Kind) (long f m : ℕ) (bytes rows : Bytes) (nr : ℕ) (mark : Lis
           stored = more .3;
         }
       where
-        more : (block < t .block) × (8 * t .block < m + 8) × After k f bytes rows (min (8 * t .block) m) t × Stored k f bytes rows mark stamp (min (8 * t .block) m) body′ span′
+        more : (block < t .block) × (8 * t .block < m + 8) × After k f bytes rows (min (8 * t .block) m) t × SumsStored k f bytes rows mark stamp (min (8 * t .block) m) body′ span′
         more = slot-next k f bytes rows mark stamp block m body′ span′ r v t e
 
     -- the loop has ended
@@ -90,8 +90,8 @@ module _ (k : Kind) (long f m : ℕ) (bytes rows : Bytes) (nr : ℕ) (mark : Lis
       all : min (8 * block) m ≡ m
       all = omega arith
 
-      pub summed-known : complete k (placed f bytes rows) f m ≡ true
-      summed-known = subst (λ (i : ℕ). complete k (placed f bytes rows) f i ≡ true) all (w .ready .after .known)
+      pub summed-known : complete k (windowAreas f bytes rows) f m ≡ true
+      summed-known = subst (λ (i : ℕ). complete k (windowAreas f bytes rows) f i ≡ true) all (w .ready .after .known)
 
-      pub summed-stored : Stored k f bytes rows mark stamp m body span
-      summed-stored = subst (λ (i : ℕ). Stored k f bytes rows mark stamp i body span) all (w .stored)
+      pub summed-stored : SumsStored k f bytes rows mark stamp m body span
+      summed-stored = subst (λ (i : ℕ). SumsStored k f bytes rows mark stamp i body span) all (w .stored)

@@ -15,7 +15,7 @@ use Rattle.loc_leaf.specs.Slot.{slotAt}
 use Rattle.loc_leaf.specs.Rows.{rowList, valueIn}
 use Rattle.loc_calls.specs.Areas.{Areas}
 use Rattle.loc_calls.specs.Reading.{sumAfter, allAfter, lookupAt, has, valueAt, stridesAfter, spansAfter}
-use Rattle.loc_window.specs.Window.{placed, complete, Passed, Rising, After, sumsOf, Right, Stored, Copied}
+use Rattle.loc_window.specs.Window.{windowAreas, complete, Passed, Rising, After, sumsOf, Right, SumsStored, Copied}
 use Rattle.loc_leaf.proofs.RowLaws.{rows-count}
 use Rattle.loc_window.proofs.SumLaws.{slot-two, lookup-is}
 
@@ -39,7 +39,7 @@ module _ (k : Kind) (f : ℕ) (bytes rows : Bytes) where
   pub past-rows : (count : ℕ) → Rising k rows count → Passed (rowList k rows) (count + 1) f
   past-rows count r h = absurd (omega (arith, rows-count k rows, r .counted))
 
-  pub stored-none : (mark : List ℕ) (stamp : ℕ) (body span : List ℕ) → Stored k f bytes rows mark stamp 0 body span
+  pub stored-none : (mark : List ℕ) (stamp : ℕ) (body span : List ℕ) → SumsStored k f bytes rows mark stamp 0 body span
   stored-none mark stamp body span = record { here = λ j h. absurd (not-suc-le-zero h); next = λ j h. absurd (not-suc-le-zero h) }
 
 -- ---- over the numbers that follow: equal where the functions are
@@ -68,7 +68,7 @@ module _ (k : Kind) (a : Areas) (f m : ℕ) (bytes old : Bytes) (w : Copied (a .
       getD-take 2 (drop (16 + 2 * (f + suc j - 1)) (a .slots)) t 0 g ∙ getD-drop (16 + 2 * (f + suc j - 1)) (a .slots) t 0
       ∙ ap (λ (n : ℕ). byte n (a .slots)) e ∙ sym (w .front (2 * j + t) (omega arith))
 
-  lookup-same : (j : ℕ) → j < m → lookupAt k (placed f bytes (a .rows)) (f + suc j) ≡ lookupAt k a (f + suc j)
+  lookup-same : (j : ℕ) → j < m → lookupAt k (windowAreas f bytes (a .rows)) (f + suc j) ≡ lookupAt k a (f + suc j)
   unfolding lookupAt
   lookup-same j h =
       lookup-is k f bytes (a .rows) j
@@ -76,20 +76,20 @@ module _ (k : Kind) (a : Areas) (f m : ℕ) (bytes old : Bytes) (w : Copied (a .
       (slot-byte j 0 h (omega arith) ∙ ap (λ (n : ℕ). byte n bytes) (add-zero (2 * j))) (slot-byte j 1 h (omega arith)))
 
   -- whether a row is missing
-  pub complete-same : (n : ℕ) → n ≤ m → complete k (placed f bytes (a .rows)) f n ≡ complete k a f n
+  pub complete-same : (n : ℕ) → n ≤ m → complete k (windowAreas f bytes (a .rows)) f n ≡ complete k a f n
   complete-same n l =
-      all-same (λ i. has (lookupAt k (placed f bytes (a .rows)) i)) (λ i. has (lookupAt k a i)) f m (λ j h. ap has (lookup-same j h)) n l
+      all-same (λ i. has (lookupAt k (windowAreas f bytes (a .rows)) i)) (λ i. has (lookupAt k a i)) f m (λ j h. ap has (lookup-same j h)) n l
 
   -- the sums
-  pub strides-same : (n : ℕ) → n ≤ m → stridesAfter k (placed f bytes (a .rows)) f n ≡ stridesAfter k a f n
+  pub strides-same : (n : ℕ) → n ≤ m → stridesAfter k (windowAreas f bytes (a .rows)) f n ≡ stridesAfter k a f n
   unfolding stridesAfter valueAt
   strides-same n l =
-      sum-same (λ i. (valueAt k (placed f bytes (a .rows)) i) .strides) (λ i. (valueAt k a i) .strides) f m (λ j h. ap (λ (v : Lookup). valueIn v .strides) (lookup-same j h)) n l
+      sum-same (λ i. (valueAt k (windowAreas f bytes (a .rows)) i) .strides) (λ i. (valueAt k a i) .strides) f m (λ j h. ap (λ (v : Lookup). valueIn v .strides) (lookup-same j h)) n l
 
-  pub spans-same : (n : ℕ) → n ≤ m → spansAfter k (placed f bytes (a .rows)) f n ≡ spansAfter k a f n
+  pub spans-same : (n : ℕ) → n ≤ m → spansAfter k (windowAreas f bytes (a .rows)) f n ≡ spansAfter k a f n
   unfolding spansAfter valueAt
   spans-same n l =
-      sum-same (λ i. (valueAt k (placed f bytes (a .rows)) i) .spans) (λ i. (valueAt k a i) .spans) f m (λ j h. ap (λ (v : Lookup). valueIn v .spans) (lookup-same j h)) n l
+      sum-same (λ i. (valueAt k (windowAreas f bytes (a .rows)) i) .spans) (λ i. (valueAt k a i) .spans) f m (λ j h. ap (λ (v : Lookup). valueIn v .spans) (lookup-same j h)) n l
 
   pub right-strides : (j : ℕ) (body span : List ℕ) → j ≤ m → Right k f bytes (a .rows) j body span → getD body j 0 ≡ stridesAfter k a f j
   right-strides j body span l r = r .bodyIs ∙ strides-same j l

@@ -23,12 +23,12 @@ totalSpans Paired bs = total (seconds bs)
 totalSpans Single bs = 0
 
 -- the two bytes of record j's slot, counted from 0
-abbrev pub slotOf : Bytes → ℕ → Bytes
-slotOf bytes j = byte (2 * j) bytes ∷ byte (2 * j + 1) bytes ∷ []
+abbrev pub slotBytes : Bytes → ℕ → Bytes
+slotBytes bytes j = byte (2 * j) bytes ∷ byte (2 * j + 1) bytes ∷ []
 
 -- 1 where record j needs a row
 abbrev pub rowBit : Kind → Bytes → ℕ → ℕ
-rowBit k s j = cond (needsRow k (slotOf s j)) 1 0
+rowBit k s j = cond (needsRow k (slotBytes s j)) 1 0
 
 -- bit t set where record j + t needs a row, of n records
 unfoldable pub rowMask : Kind → Bytes → ℕ → ℕ → ℕ
@@ -42,7 +42,7 @@ sumFrom g j (suc n) = g j + sumFrom g (j + 1) n
 
 -- what the slots of n records from record j on say, added up
 abbrev pub inlineStrides : Kind → Bytes → ℕ → ℕ → ℕ
-inlineStrides k s j n = sumFrom (λ i. inline k (slotOf s i) .strides) j n
+inlineStrides k s j n = sumFrom (λ i. inline k (slotBytes s i) .strides) j n
 
 abbrev pub inlineSpans : Kind → Bytes → ℕ → ℕ → ℕ
-inlineSpans k s j n = sumFrom (λ i. inline k (slotOf s i) .spans) j n
+inlineSpans k s j n = sumFrom (λ i. inline k (slotBytes s i) .spans) j n

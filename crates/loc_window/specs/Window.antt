@@ -16,15 +16,15 @@ use Rattle.loc_calls.specs.Areas.{Areas}
 pub use Rattle.loc_calls.specs.Reading.{complete}
 use Rattle.loc_calls.specs.Reading.{stridesAfter, spansAfter}
 use Rattle.loc_leaf.specs.Slot.{needsRow}
-pub use Rattle.loc_window.specs.Block.{slotOf}
+pub use Rattle.loc_window.specs.Block.{slotBytes}
 use Rattle.loc_window.specs.Block.{rowMask, inlineStrides, inlineSpans}
 use Rattle.loc_window.specs.declared.Sums.{Sums}
 use Rattle.loc_window.specs.declared.Step.{Step}
 use Rattle.loc_window.specs.declared.Step.the-variants.{Next, Lack}
 
 -- areas whose slots of the records that follow record f are these bytes
-unfoldable pub placed : ℕ → Bytes → Bytes → Areas
-placed f bytes rows = record { slots = replicate (16 + 2 * f) 0 ++ bytes; rows = rows; checkpoints = [] }
+unfoldable pub windowAreas : ℕ → Bytes → Bytes → Areas
+windowAreas f bytes rows = record { slots = replicate (16 + 2 * f) 0 ++ bytes; rows = rows; checkpoints = [] }
 
 -- the rows before a place are numbered up to id; a place past the rows says nothing
 abbrev pub Passed : List Bytes → ℕ → ℕ → Type 0
@@ -37,9 +37,9 @@ pub record Rising (k : Kind) (rows : Bytes) (count : ℕ) : Type 0 where
 
 -- s is what n records of the window add up to
 pub record After (k : Kind) (f : ℕ) (bytes rows : Bytes) (n : ℕ) (s : Sums) : Type 0 where
-  pub known : complete k (placed f bytes rows) f n ≡ true
-  pub isStrides : s .strides ≡ stridesAfter k (placed f bytes rows) f n
-  pub isSpans : s .spans ≡ spansAfter k (placed f bytes rows) f n
+  pub known : complete k (windowAreas f bytes rows) f n ≡ true
+  pub isStrides : s .strides ≡ stridesAfter k (windowAreas f bytes rows) f n
+  pub isSpans : s .spans ≡ spansAfter k (windowAreas f bytes rows) f n
   pub stridesLow : s .strides ≤ n * 2 ^ 32
   pub spansLow : s .spans ≤ n * 2 ^ 32
   pub passed : Passed (rowList k rows) (s .row) (f + n)
@@ -64,8 +64,8 @@ pub record FoundRow (k : Kind) (rows : Bytes) (count id r : ℕ) : Type 0 where
 
 -- the sums of j records stand in the arrays
 pub record Right (k : Kind) (f : ℕ) (bytes rows : Bytes) (j : ℕ) (body span : List ℕ) : Type 0 where
-  pub bodyIs : getD body j 0 ≡ stridesAfter k (placed f bytes rows) f j
-  pub spanIs : getD span j 0 ≡ spansAfter k (placed f bytes rows) f j
+  pub bodyIs : getD body j 0 ≡ stridesAfter k (windowAreas f bytes rows) f j
+  pub spanIs : getD span j 0 ≡ spansAfter k (windowAreas f bytes rows) f j
   pub bodyLow : getD body j 0 ≤ j * 2 ^ 32
   pub spanLow : getD span j 0 ≤ j * 2 ^ 32
 
@@ -81,7 +81,7 @@ pub record Written (k : Kind) (f : ℕ) (bytes rows : Bytes) (from n : ℕ) (bod
 abbrev pub Recorded : Kind → ℕ → Bytes → Bytes → ℕ → ℕ → ℕ → List ℕ → List ℕ → List ℕ → List ℕ → Step → Type 0
 Recorded k f bytes rows block from n body₀ span₀ body span (Next s) =
     (s .block ≡ block) × After k f bytes rows n s × Written k f bytes rows from n body₀ span₀ body span
-Recorded k f bytes rows block from n body₀ span₀ body span Lack = complete k (placed f bytes rows) f n ≡ false
+Recorded k f bytes rows block from n body₀ span₀ body span Lack = complete k (windowAreas f bytes rows) f n ≡ false
 
 -- what a walk over the records `from` to n asks
 pub record Ready (k : Kind) (f : ℕ) (bytes rows : Bytes) (count from n : ℕ) (s : Sums) (body span : List ℕ) : Type 0 where
@@ -110,7 +110,7 @@ pub record BlockReady (k : Kind) (f : ℕ) (bytes rows : Bytes) (count full : �
 -- one block more, or one of its records lacks its row
 abbrev pub BlockStepped : Kind → ℕ → Bytes → Bytes → ℕ → Step → Type 0
 BlockStepped k f bytes rows block (Next t) = (t .block ≡ block + 1) × After k f bytes rows (8 * (block + 1)) t
-BlockStepped k f bytes rows block Lack = complete k (placed f bytes rows) f (8 * (block + 1)) ≡ false
+BlockStepped k f bytes rows block Lack = complete k (windowAreas f bytes rows) f (8 * (block + 1)) ≡ false
 
 -- x and y are what j records add up to, with the bytes of n records more, of which `left` says those that need a row
 pub record Swapping (k : Kind) (f : ℕ) (bytes rows : Bytes) (j n x y row left : ℕ) : Type 0 where
@@ -145,16 +145,16 @@ pub record PlainBlocks (k : Kind) (bytes : Bytes) (mark : List ℕ) (stamp full 
   pub sameRow : r .row ≡ s .row
   pub stridesFew : r .strides ≤ s .strides + 2 ^ 19 * (r .block - s .block)
   pub spansFew : r .spans ≤ s .spans + 2 ^ 19 * (r .block - s .block)
-  pub plain : (i : ℕ) → 8 * s .block ≤ i → i < 8 * r .block → needsRow k (slotOf bytes i) ≡ false
+  pub plain : (i : ℕ) → 8 * s .block ≤ i → i < 8 * r .block → needsRow k (slotBytes bytes i) ≡ false
   pub unmarked : Unmarked mark stamp (s .block) (r .block)
 
 -- a walk over blocks that are not marked, or one of the records before `full` lacks its row
 abbrev pub BlocksPassed : Kind → ℕ → Bytes → Bytes → List ℕ → ℕ → ℕ → ℕ → Step → Type 0
 BlocksPassed k f bytes rows mark stamp block full (Next t) = BlocksAfter k f bytes rows mark stamp block full t
-BlocksPassed k f bytes rows mark stamp block full Lack = complete k (placed f bytes rows) f (8 * full) ≡ false
+BlocksPassed k f bytes rows mark stamp block full Lack = complete k (windowAreas f bytes rows) f (8 * full) ≡ false
 
 -- of the first n records, the sums before and after each one of a marked block stand in the arrays
-pub record Stored (k : Kind) (f : ℕ) (bytes rows : Bytes) (mark : List ℕ) (stamp n : ℕ) (body span : List ℕ) : Type 0 where
+pub record SumsStored (k : Kind) (f : ℕ) (bytes rows : Bytes) (mark : List ℕ) (stamp n : ℕ) (body span : List ℕ) : Type 0 where
   pub here : (j : ℕ) → j < n → getD mark (j / 8) 0 ≡ stamp → Right k f bytes rows j body span
   pub next : (j : ℕ) → j < n → getD mark (j / 8) 0 ≡ stamp → Right k f bytes rows (j + 1) body span
 
@@ -162,8 +162,8 @@ pub record Stored (k : Kind) (f : ℕ) (bytes rows : Bytes) (mark : List ℕ) (s
 abbrev pub SlotStepped : Kind → ℕ → Bytes → Bytes → List ℕ → ℕ → ℕ → ℕ → List ℕ → List ℕ → Step → Type 0
 SlotStepped k f bytes rows mark stamp block m body span (Next s) =
     (block < s .block) × (8 * s .block < m + 8)
-    × After k f bytes rows (min (8 * s .block) m) s × Stored k f bytes rows mark stamp (min (8 * s .block) m) body span
-SlotStepped k f bytes rows mark stamp block m body span Lack = complete k (placed f bytes rows) f m ≡ false
+    × After k f bytes rows (min (8 * s .block) m) s × SumsStored k f bytes rows mark stamp (min (8 * s .block) m) body span
+SlotStepped k f bytes rows mark stamp block m body span Lack = complete k (windowAreas f bytes rows) f m ≡ false
 
 -- the blocks before a block of the window's first m records are summed, in arrays of some length
 pub record Summing (k : Kind) (long f m : ℕ) (bytes rows : Bytes) (nr : ℕ) (mark : List ℕ) (stamp block : ℕ) (s : Sums) (body span : List ℕ) : Type 0 where
@@ -171,7 +171,7 @@ pub record Summing (k : Kind) (long f m : ℕ) (bytes rows : Bytes) (nr : ℕ) (
   pub bodyLong : length body ≡ long
   pub spanLong : length span ≡ long
   pub ready : Ready k f bytes rows nr (min (8 * block) m) m s body span
-  pub stored : Stored k f bytes rows mark stamp (min (8 * block) m) body span
+  pub stored : SumsStored k f bytes rows mark stamp (min (8 * block) m) body span
 
 -- ---- the copy
 

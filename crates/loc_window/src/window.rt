@@ -3,7 +3,7 @@
 ghost use mathlib.Core.Path.{_≡_};
 ghost use Prim.Native.Nat.{_+_, _*_, _<_, _≤_, min};
 ghost use lib.ListN.{length};
-ghost use Rattle.loc_window.specs.Window.{sumsOf, Ready, Stored, SlotStepped, Copied};
+ghost use Rattle.loc_window.specs.Window.{sumsOf, Ready, SumsStored, SlotStepped, Copied};
 use crate::Step;
 use crate::Sums;
 use crate::blocks::blocks;
@@ -50,7 +50,7 @@ fn marked_records(
     span: &mut [u64],
 ) -> Step
     requires { ⌜ (length (now mark) ≡ 128) × (8 * s .block < m) × Ready kind first (now bytes) (now rows) count (8 * s .block) m s (now body) (now span) ⌝ }
-    requires { ⌜ Stored kind first (now bytes) (now rows) (now mark) stamp (8 * s .block) (now body) (now span) ⌝ }
+    requires { ⌜ SumsStored kind first (now bytes) (now rows) (now mark) stamp (8 * s .block) (now body) (now span) ⌝ }
     ensures { λ r. ⌜ SlotStepped kind first (now (bytes .entry)) (now (rows .entry)) (now (mark .entry)) stamp (s .block) m (now (body .exit)) (now (span .exit)) r ⌝ }
 {
     let from = s.block;
@@ -87,7 +87,7 @@ pub fn slot_step(
     span: &mut [u64],
 ) -> Step
     requires { ⌜ (length (now mark) ≡ 128) × (8 * block < m) × Ready kind first (now bytes) (now rows) count (8 * block) m (sumsOf strides spans row block) (now body) (now span) ⌝ }
-    requires { ⌜ Stored kind first (now bytes) (now rows) (now mark) stamp (8 * block) (now body) (now span) ⌝ }
+    requires { ⌜ SumsStored kind first (now bytes) (now rows) (now mark) stamp (8 * block) (now body) (now span) ⌝ }
     ensures { λ r. ⌜ SlotStepped kind first (now (bytes .entry)) (now (rows .entry)) (now (mark .entry)) stamp block m (now (body .exit)) (now (span .exit)) r ⌝ }
 {
     let s = Sums {

@@ -6,7 +6,7 @@ use lib.ListN.{length}
 use borrow.Author.Needs.{needs}
 use denote.Ref.{now}
 use Rattle.loc_calls.specs.Table.{wordWidth}
-use Rattle.loc_order.specs.Keys.{places}
+use Rattle.loc_order.specs.Keys.{placesFrom}
 use Rattle.loc_answer.proofs.AnswerLaws.{place-below}
 use Rattle.loc_answer.specs.Words.{RunPut, SamePast}
 use Rattle.loc_answer.proofs.PutLaws.{run-none, run-more, run-end, run-summed, put-past, own-place, own-wanted}
@@ -14,7 +14,7 @@ use Rattle.loc_answer.proofs.put.put_window.Statement.{statement}
 use Rattle.loc_answer.proofs.put.put_window.Tie as tie
 
 abbrev Inv-loop : tie.InvT-loop
-Inv-loop kind wanted body-end span-end body span out₀ p₀ out p = (p ≤ length wanted) × (length out ≡ length out₀) × RunPut kind wanted (places 0 (length wanted)) 0 p body-end span-end body span out₀ out × SamePast (wordWidth kind * length wanted) out₀ out
+Inv-loop kind wanted body-end span-end body span out₀ p₀ out p = (p ≤ length wanted) × (length out ≡ length out₀) × RunPut kind wanted (placesFrom 0 (length wanted)) 0 p body-end span-end body span out₀ out × SamePast (wordWidth kind * length wanted) out₀ out
 
 abbrev μ-loop : tie.MeasureT-loop
 μ-loop kind wanted body-end span-end body span out₀ p₀ out p = length wanted - p

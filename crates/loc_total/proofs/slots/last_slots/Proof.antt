@@ -5,7 +5,7 @@ use native.Mathlib.Omega.{arith}
 use borrow.Author.Needs.{needs}
 use denote.Ref.{now}
 use Rattle.loc_leaf.specs.Slot.{needsRow}
-use Rattle.loc_window.specs.Block.{slotOf}
+use Rattle.loc_window.specs.Block.{slotBytes}
 use Rattle.loc_total.specs.Slots.{SlotTotal}
 use Rattle.loc_window.proofs.MaskLaws.{bit-lt}
 use Rattle.loc_total.proofs.SlotLaws.{totalOf, slots-small, slot-next, slots-end}
@@ -55,7 +55,7 @@ row-bit-requires : tie.Need-row-bit-requires Inv-loop μ-loop
 row-bit-requires c κs = search needs
 
 add-lacking : tie.Need-add-lacking Inv-loop μ-loop
-add-lacking c = omega (arith, slots-small _ _ _ _ (c .before .before .before .before .before .before .before .loop .inv .1) (omega (arith, c .before .before .before .before .before .before .loop-test .taken, c .before .before .before .before .before .before .before .before .before .pre .1)) .2, c .row-bit .ensures, bit-lt (needsRow (c .before .before .before .before .before .before .before .before .before .args .kind) (slotOf (now (c .before .before .before .before .before .before .before .before .before .args .bytes)) (c .before .before .before .before .before .before .before .loop .i))))
+add-lacking c = omega (arith, slots-small _ _ _ _ (c .before .before .before .before .before .before .before .loop .inv .1) (omega (arith, c .before .before .before .before .before .before .loop-test .taken, c .before .before .before .before .before .before .before .before .before .pre .1)) .2, c .row-bit .ensures, bit-lt (needsRow (c .before .before .before .before .before .before .before .before .before .args .kind) (slotBytes (now (c .before .before .before .before .before .before .before .before .before .args .bytes)) (c .before .before .before .before .before .before .before .loop .i))))
 
 add-i : tie.Need-add-i Inv-loop μ-loop
 add-i c = search needs

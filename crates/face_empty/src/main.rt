@@ -1,5 +1,0 @@
-// An index of no records.
-// The files are in data/, what is printed in stdout.
-fn main() {
-    face_files::list_face();
-}

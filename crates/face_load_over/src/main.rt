@@ -1,5 +1,0 @@
-// 1,025 records: 26.
-// The input is in stdin, what is printed in stdout.
-fn main() {
-    face_seed::print_load();
-}

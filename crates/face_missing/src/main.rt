@@ -1,5 +1,0 @@
-// No files: each counts as empty.
-// The files are in data/, what is printed in stdout.
-fn main() {
-    face_files::list_face();
-}

@@ -1,5 +1,0 @@
-// Slot data odd: 2.
-// The files are in data/, what is printed in stdout.
-fn main() {
-    face_files::list_face();
-}

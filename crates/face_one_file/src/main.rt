@@ -1,5 +1,0 @@
-// Two of three files missing.
-// The files are in data/, what is printed in stdout.
-fn main() {
-    face_files::list_face();
-}

@@ -1,5 +1,0 @@
-// Two rows of one number: 5.
-// The files are in data/, what is printed in stdout.
-fn main() {
-    face_files::list_face();
-}
