@@ -17,10 +17,10 @@ use Rattle.loc_calls.specs.Reading.{sumAfter, allAfter, lookupAt, has, valueAt,
 use Rattle.loc_window.specs.declared.Sums.{Sums}
 use Rattle.loc_window.specs.declared.Step.{Step}
 use Rattle.loc_window.specs.declared.Step.the-variants.{Next, Lack}
-use Rattle.loc_window.specs.Window.{windowAreas, Passed, After, sumsOf, Right, SumsStored, Summing, Copied}
+use Rattle.loc_window.specs.Window.{windowAreas, Passed, After, sumsOf, Right, SumsStored, Summing, WindowSummed, Copied}
 use Rattle.loc_window.proofs.WindowLaws.{part-copied, complete-same, strides-same, spans-same, right-spans}
-use Rattle.loc_window.proofs.SummingLaws.{summing-begins, summed-stored}
-use Rattle.loc_whole.specs.Totals.{Walkable, Totals, Running, Totalled, Lent, PartTotalled}
+use Rattle.loc_window.proofs.SummingLaws.{summing-begins}
+use Rattle.loc_whole.specs.Totals.{Walkable, Totals, Running, Totalled, Lent}
 
 -- ---- fewer records, and those after them
 
@@ -85,42 +85,30 @@ module _ (a : Areas) (f m : ℕ) (some : 0 < m) where
       right-spans Paired a f m lent lent copied (suc j) body span h
       (subst (λ (i : ℕ). Right Paired f lent (a .rows) i body span) (add-one j) (w .next j h (ap (λ (l : List ℕ). getD l (j / 8) 0) e ∙ marked 128 (j / 8))))
 
-  part-totalled : (mark : List ℕ) (stamp : ℕ) (body span : List ℕ) (r : Step) → mark ≡ replicate 128 0 → PartTotalled f lent (a .rows) mark stamp m body span r → Totalled a f m stamp span r
-  unfolding PartTotalled Totalled
+  part-totalled : (mark : List ℕ) (stamp : ℕ) (body span : List ℕ) (r : Step) → mark ≡ replicate 128 0 → WindowSummed Paired f lent (a .rows) mark stamp m body span r → Totalled a f m stamp span r
+  unfolding WindowSummed Totalled
   part-totalled mark stamp body span (Next s) e w = (
     part-sums s (w .0),
     λ z. part-running mark body span e (subst (λ (i : ℕ). SumsStored Paired f lent (a .rows) mark i m body span) z (w .1)),
   )
   part-totalled mark stamp body span Lack e w = sym part-known ∙ w
 
--- the loop over it has ended
-pub part-ends : (f m : ℕ) (bytes rows : Bytes) (nr : ℕ) (mark : List ℕ) (stamp block : ℕ) (s : Sums) (body span : List ℕ) → Summing Paired 257 f m bytes rows nr mark stamp block s body span → m ≤ 8 * block
-    → PartTotalled f bytes rows mark stamp m body span (Next s)
-unfolding PartTotalled
-part-ends f m bytes rows nr mark stamp block s body span w h =
-    let all : min (8 * block) m ≡ m = omega arith in
-    (subst (λ (i : ℕ). After Paired f bytes rows i s) all (w .ready .after), summed-stored Paired 257 f m bytes rows nr mark stamp block s body span w h)
-
-pub part-lacks : (f m : ℕ) (bytes rows : Bytes) (mark : List ℕ) (stamp : ℕ) (body span : List ℕ) → complete Paired (windowAreas f bytes rows) f m ≡ false → PartTotalled f bytes rows mark stamp m body span Lack
-unfolding PartTotalled
-part-lacks f m bytes rows mark stamp body span e = e
-
 -- the part as the code takes it: d bytes
 module _ (slots rows : Bytes) (nr f m row : ℕ) (g : Walkable slots rows nr f m row) (d : ℕ) (e : d ≡ 2 * m) (mark : List ℕ) (stamp : ℕ) where
   part-long : length (part slots f d) ≡ 2 * m
   part-long = length-take-le d (drop (16 + 2 * f) slots) (omega (arith, length-drop (16 + 2 * f) slots, g .room)) ∙ e
 
-  pub totals-ask : (body span : List ℕ) → Lent mark body span → (length mark ≡ 128) × Summing Paired 257 f m (part slots f d) rows nr mark stamp 0 (sumsOf 0 0 row 0) body span
+  pub totals-ask : (body span : List ℕ) → Lent mark body span → (length mark ≡ 128) × Summing Paired (length body) f m (part slots f d) rows nr mark stamp 0 (sumsOf 0 0 row 0) body span
   totals-ask body span l = (
     ap length (l .marks) ∙ length-replicate {A = ℕ} 128 0,
-    summing-begins Paired 257 f m (part slots f d) rows nr mark stamp row body span (omega (arith, g .few)) (omega (arith, g .few)) (omega (arith, g .low)) (g .rise) (g .passed)
-        (omega (arith, part-long)) (l .bodyLong) (l .spanLong),
+    summing-begins Paired (length body) f m (part slots f d) rows nr mark stamp row body span (omega (arith, g .few)) (omega (arith, g .few, l .bodyLong)) (omega (arith, g .low)) (g .rise) (g .passed)
+        (omega (arith, part-long)) refl (l .spanLong ∙ sym (l .bodyLong)),
   )
 
-  pub totals-are : (body span : List ℕ) (r : Step) → mark ≡ replicate 128 0 → PartTotalled f (part slots f d) rows mark stamp m body span r
+  pub totals-are : (body span : List ℕ) (r : Step) → mark ≡ replicate 128 0 → WindowSummed Paired f (part slots f d) rows mark stamp m body span r
       → (c : Bytes) → Totalled (areas slots rows c) f m stamp span r
   totals-are body span r em v c =
-      part-totalled (areas slots rows c) f m (g .some) mark stamp body span r em (subst (λ (i : ℕ). PartTotalled f (part slots f i) rows mark stamp m body span r) e v)
+      part-totalled (areas slots rows c) f m (g .some) mark stamp body span r em (subst (λ (i : ℕ). WindowSummed Paired f (part slots f i) rows mark stamp m body span r) e v)
 
 -- ---- by what is returned
 

@@ -13,7 +13,7 @@ use Rattle.loc_calls.specs.Reading.{complete, stridesAfter, spansAfter}
 use Rattle.loc_window.specs.declared.Sums.{Sums}
 use Rattle.loc_window.specs.declared.Step.{Step}
 use Rattle.loc_window.specs.declared.Step.the-variants.{Next, Lack}
-use Rattle.loc_window.specs.Window.{windowAreas, Passed, Rising, After, SumsStored}
+use Rattle.loc_window.specs.Window.{Passed, Rising}
 
 -- what a walk over them asks of slots and rows
 pub record Walkable (slots rows : Bytes) (nr f m row : ℕ) : Type 0 where
@@ -47,8 +47,3 @@ pub record Lent (mark body span : List ℕ) : Type 0 where
   pub marks : mark ≡ replicate 128 0
   pub bodyLong : length body ≡ 257
   pub spanLong : length span ≡ 257
-
--- the same of a part of the slots
-unfoldable pub PartTotalled : ℕ → Bytes → Bytes → List ℕ → ℕ → ℕ → List ℕ → List ℕ → Step → Type 0
-PartTotalled f bytes rows mark stamp m body span (Next s) = After Paired f bytes rows m s × SumsStored Paired f bytes rows mark stamp m body span
-PartTotalled f bytes rows mark stamp m body span Lack = complete Paired (windowAreas f bytes rows) f m ≡ false

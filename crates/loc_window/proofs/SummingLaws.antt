@@ -2,7 +2,7 @@
 -- f is the record before the window, m how many of its records are looked at.
 use Prim.Native.Nat.{ℕ, _+_, _*_, _^_, _≤_, _<_, min}
 use mathlib.Core.Path.{_≡_, _∙_, subst}
-use mathlib.Core.Bool.{true}
+use mathlib.Core.Bool.{true, false}
 use mathlib.Core.List.{List}
 use native.Mathlib.Omega.{arith}
 use lib.ListN.{length}
@@ -11,10 +11,10 @@ use Rattle.loc_leaf.specs.Bytes.{Bytes}
 use Rattle.loc_leaf.specs.Rows.{rowList}
 use Rattle.loc_window.specs.declared.Sums.{Sums}
 use Rattle.loc_window.specs.declared.Step.{Step}
-use Rattle.loc_window.specs.declared.Step.the-variants.{Next}
-use Rattle.loc_window.specs.Window.{windowAreas, complete, Passed, Rising, After, sumsOf, Ready, SumsStored, SlotStepped, Summing}
+use Rattle.loc_window.specs.declared.Step.the-variants.{Next, Lack}
+use Rattle.loc_window.specs.Window.{windowAreas, complete, Passed, Rising, After, sumsOf, Ready, SumsStored, SlotStepped, Summing, WindowSummed}
 use Rattle.loc_window.proofs.SumLaws.{after-at}
-use Rattle.loc_window.proofs.StepLaws.{slot-next}
+use Rattle.loc_window.proofs.StepLaws.{slot-next, slot-lack}
 use Rattle.loc_window.proofs.WindowLaws.{after-none, stored-none}
 
 module _ (k : Kind) (long f m : ℕ) (bytes rows : Bytes) (nr : ℕ) (mark : List ℕ) (stamp : ℕ) where
@@ -95,3 +95,24 @@ module _ (k : Kind) (long f m : ℕ) (bytes rows : Bytes) (nr : ℕ) (mark : Lis
 
       pub summed-stored : SumsStored k f bytes rows mark stamp m body span
       summed-stored = subst (λ (i : ℕ). SumsStored k f bytes rows mark stamp i body span) all (w .stored)
+
+      pub summed-all : WindowSummed k f bytes rows mark stamp m body span (Next s)
+      unfolding WindowSummed
+      summed-all = (subst (λ (i : ℕ). After k f bytes rows i s) all (w .ready .after), summed-stored)
+
+-- ---- by what is returned
+
+-- a step finds that a record lacks its row
+pub summed-lack : (k : Kind) (f m : ℕ) (bytes rows : Bytes) (mark : List ℕ) (stamp block : ℕ) (body span : List ℕ) (r : Step) → SlotStepped k f bytes rows mark stamp block m body span r → r ≡ Lack
+    → WindowSummed k f bytes rows mark stamp m body span Lack
+unfolding WindowSummed
+summed-lack k f m bytes rows mark stamp block body span r v e = slot-lack k f bytes rows mark stamp block m body span r v e
+
+module _ (k : Kind) (f m : ℕ) (bytes rows : Bytes) (mark : List ℕ) (stamp : ℕ) (body span : List ℕ) (r : Step) (v : WindowSummed k f bytes rows mark stamp m body span r) where
+  pub window-next : (s : Sums) → r ≡ Next s → After k f bytes rows m s × SumsStored k f bytes rows mark stamp m body span
+  unfolding WindowSummed
+  window-next s e = subst (WindowSummed k f bytes rows mark stamp m body span) e v
+
+  pub window-lack : r ≡ Lack → complete k (windowAreas f bytes rows) f m ≡ false
+  unfolding WindowSummed
+  window-lack e = subst (WindowSummed k f bytes rows mark stamp m body span) e v

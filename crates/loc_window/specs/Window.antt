@@ -173,6 +173,11 @@ pub record Summing (k : Kind) (long f m : ℕ) (bytes rows : Bytes) (nr : ℕ) (
   pub ready : Ready k f bytes rows nr (min (8 * block) m) m s body span
   pub stored : SumsStored k f bytes rows mark stamp (min (8 * block) m) body span
 
+-- the sums of the window's first m records, those of marked blocks in the arrays, or one of them lacks its row
+unfoldable pub WindowSummed : Kind → ℕ → Bytes → Bytes → List ℕ → ℕ → ℕ → List ℕ → List ℕ → Step → Type 0
+WindowSummed k f bytes rows mark stamp m body span (Next s) = After k f bytes rows m s × SumsStored k f bytes rows mark stamp m body span
+WindowSummed k f bytes rows mark stamp m body span Lack = complete k (windowAreas f bytes rows) f m ≡ false
+
 -- ---- the copy
 
 -- n bytes from a place on are copied over the front

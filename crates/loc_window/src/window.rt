@@ -3,7 +3,7 @@
 ghost use mathlib.Core.Path.{_≡_};
 ghost use Prim.Native.Nat.{_+_, _*_, _<_, _≤_, min};
 ghost use lib.ListN.{length};
-ghost use Rattle.loc_window.specs.Window.{sumsOf, Ready, SumsStored, SlotStepped, Copied};
+ghost use Rattle.loc_window.specs.Window.{sumsOf, Ready, SumsStored, SlotStepped, Summing, WindowSummed, Copied};
 use crate::Step;
 use crate::Sums;
 use crate::blocks::blocks;
@@ -118,6 +118,64 @@ pub fn slot_step(
         }
         Step::Lack => Step::Lack,
     }
+}
+
+// The sums of a window's first m records, of which the first `row` rows are passed, or that one of them lacks its row.
+pub fn window_sums(
+    kind: Kind,
+    bytes: &[u8],
+    m: usize,
+    mark: &[u64],
+    stamp: u64,
+    rows: &[u8],
+    count: usize,
+    first: u64,
+    row: usize,
+    body: &mut [u64],
+    span: &mut [u64],
+) -> Step
+    requires { ⌜ (length (now mark) ≡ 128) × Summing kind (length (now body)) first m (now bytes) (now rows) count (now mark) stamp 0 (sumsOf 0 0 row 0) (now body) (now span) ⌝ }
+    ensures { λ r. ⌜ WindowSummed kind first (now (bytes .entry)) (now (rows .entry)) (now (mark .entry)) stamp m (now (body .exit)) (now (span .exit)) r ⌝ }
+{
+    let mut strides: u64 = 0;
+    let mut spans: u64 = 0;
+    let mut passed = row;
+    let mut block: usize = 0;
+    while 8 * block < m {
+        let step = slot_step(
+            kind,
+            bytes,
+            block,
+            m,
+            mark,
+            stamp,
+            rows,
+            count,
+            first,
+            strides,
+            spans,
+            passed,
+            body,
+            span,
+        );
+        match step {
+            Step::Next(t) => {
+                strides = t.strides;
+                spans = t.spans;
+                passed = t.row;
+                block = t.block;
+            }
+            Step::Lack => {
+                return Step::Lack;
+            }
+        }
+    }
+    Step::Next(Sums {
+        strides,
+        spans,
+        row: passed,
+        block,
+    })
 }
 
 // The slots of a window: n bytes from a place on, over the front of the copy.

@@ -19,17 +19,19 @@ mul-end c = search needs
 add-end : tie.Need-add-end
 add-end c = search needs
 
-sub-part-totals : tie.Need-sub-part-totals
-sub-part-totals c = search needs
+sub-window-sums : tie.Need-sub-window-sums
+sub-window-sums c = search needs
 
-part-part-totals-start : tie.Need-part-part-totals-start
-part-part-totals-start c = search needs
+part-window-sums-start : tie.Need-part-window-sums-start
+part-window-sums-start c = search needs
 
-part-part-totals-end : tie.Need-part-part-totals-end
-part-part-totals-end c = search needs
+part-window-sums-end : tie.Need-part-window-sums-end
+part-window-sums-end c = search needs
 
-part-totals-requires : tie.Need-part-totals-requires
-part-totals-requires c κs = totals-ask (now (c .before .before .before .before .before .before .before .before .args .slots)) (now (c .before .before .before .before .before .before .before .before .args .rows)) _ _ _ _ (c .before .before .before .before .before .before .before .before .pre .0) (16 + 2 * c .before .before .before .before .before .before .before .before .args .first + 2 * c .before .before .before .before .before .before .before .before .args .m - (16 + 2 * c .before .before .before .before .before .before .before .before .args .first)) (omega arith) _ _ _ _ (c .before .before .before .before .before .before .before .before .pre .1)
+window-sums-requires : tie.Need-window-sums-requires
+window-sums-requires c κs =
+    let a = c .before .before .before .before .before .before .before .before in
+    totals-ask (now (a .args .slots)) (now (a .args .rows)) _ _ _ _ (a .pre .0) (16 + 2 * a .args .first + 2 * a .args .m - (16 + 2 * a .args .first)) (omega arith) _ _ _ _ (a .pre .1)
 
 same-length : tie.Need-same-length
 same-length c = search needs
@@ -38,7 +40,9 @@ same-length-2 : tie.Need-same-length-2
 same-length-2 c = search needs
 
 returns : tie.Need-returns
-returns c = totals-are (now (c .before .before .before .before .before .before .before .before .before .before .before .before .before .args .slots)) (now (c .before .before .before .before .before .before .before .before .before .before .before .before .before .args .rows)) _ _ _ _ (c .before .before .before .before .before .before .before .before .before .before .before .before .before .pre .0) (16 + 2 * c .before .before .before .before .before .before .before .before .before .before .before .before .before .args .first + 2 * c .before .before .before .before .before .before .before .before .before .before .before .before .before .args .m - (16 + 2 * c .before .before .before .before .before .before .before .before .before .before .before .before .before .args .first)) (omega arith) _ _ _ _ _ (c .before .before .before .before .before .before .before .before .before .before .before .before .before .pre .1 .marks) (c .before .before .before .before .part-totals .ensures)
+returns c =
+    let a = c .before .before .before .before .before .before .before .before .before .before .before .before .before in
+    totals-are (now (a .args .slots)) (now (a .args .rows)) _ _ _ _ (a .pre .0) (16 + 2 * a .args .first + 2 * a .args .m - (16 + 2 * a .args .first)) (omega arith) _ _ _ _ _ (a .pre .1 .marks) (c .before .before .before .before .window-sums .ensures)
 
 pub totals-spec : {M : Type 1} → statement M
 totals-spec =
@@ -48,10 +52,10 @@ totals-spec =
     add-at
     mul-end
     add-end
-    sub-part-totals
-    part-part-totals-start
-    part-part-totals-end
-    part-totals-requires
+    sub-window-sums
+    part-window-sums-start
+    part-window-sums-end
+    window-sums-requires
     same-length
     same-length-2
     returns)

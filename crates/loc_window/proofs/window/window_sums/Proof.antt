@@ -1,21 +1,20 @@
--- `loc_whole::totals::part_totals` meets its contract.
+-- `loc_window::window::window_sums` meets its contract.
+-- The invariant: the sums of the blocks so far, `Summing`.
 use Prim.Native.Nat.{_+_, _-_, _*_}
 use mathlib.Core.Path.{sym, _∙_}
 use native.Mathlib.Omega.{arith}
+use lib.ListN.{length}
 use borrow.Author.Needs.{needs}
-use Rattle.loc_leaf.specs.declared.Kind.the-variants.{Paired}
-use Rattle.loc_whole.proofs.TotalLaws.{part-ends, part-lacks}
-use Rattle.loc_whole.proofs.totals.part_totals.Statement.{statement}
-use Rattle.loc_whole.proofs.totals.part_totals.Tie as tie
-use Rattle.loc_window.proofs.StepLaws.{slot-lack}
-use Rattle.loc_window.proofs.SummingLaws.{summing-asks, summing-more, summing-next}
 use Rattle.loc_window.specs.Window.{sumsOf, Summing}
+use Rattle.loc_window.proofs.SummingLaws.{summing-asks, summing-more, summing-next, summed-all, summed-lack}
+use Rattle.loc_window.proofs.window.window_sums.Statement.{statement}
+use Rattle.loc_window.proofs.window.window_sums.Tie as tie
 
 abbrev Inv-loop : tie.InvT-loop
-Inv-loop bytes m mark stamp rows row-count first row body₀ span₀ strides₀ spans₀ passed₀ block₀ body span strides spans passed block = Summing Paired 257 first m bytes rows row-count mark stamp block (sumsOf strides spans passed block) body span
+Inv-loop kind bytes m mark stamp rows count first row body₀ span₀ strides₀ spans₀ passed₀ block₀ body span strides spans passed block = Summing kind (length body₀) first m bytes rows count mark stamp block (sumsOf strides spans passed block) body span
 
 abbrev μ-loop : tie.MeasureT-loop
-μ-loop bytes m mark stamp rows row-count first row body₀ span₀ strides₀ spans₀ passed₀ block₀ body span strides spans passed block = m + 8 - 8 * block
+μ-loop kind bytes m mark stamp rows count first row body₀ span₀ strides₀ spans₀ passed₀ block₀ body span strides spans passed block = m + 8 - 8 * block
 
 loop-holds : tie.Need-loop-holds Inv-loop μ-loop
 loop-holds c = c .before .before .before .before .before .pre .1
@@ -45,7 +44,7 @@ same-length-2 : tie.Need-same-length-2 Inv-loop μ-loop
 same-length-2 c = c .before .before .before .before .before .before .slot-step .kept .1 .1 .1 .1 .1 .1 .1 .1 .1 .1 .1 .1 .1 .0 ∙ c .before .before .before .before .before .before .before .before .before .before .loop .inv .spanLong ∙ sym (c .before .before .before .before .before .before .before .before .before .before .before .before .before .before .before .before .pre .1 .spanLong)
 
 returns : tie.Need-returns Inv-loop μ-loop
-returns c = part-lacks _ _ _ _ _ _ _ _ (slot-lack _ _ _ _ _ _ _ _ _ _ _ (c .before .before .before .before .before .before .slot-step .ensures) (c .enum-told .given .1))
+returns c = summed-lack _ _ _ _ _ _ _ _ _ _ _ (c .before .before .before .before .before .before .slot-step .ensures) (c .enum-told .given .1)
 
 same-length-3 : tie.Need-same-length-3 Inv-loop μ-loop
 same-length-3 c = c .before .loop .inv .bodyLong ∙ sym (c .before .before .before .before .before .before .before .pre .1 .bodyLong)
@@ -54,10 +53,10 @@ same-length-4 : tie.Need-same-length-4 Inv-loop μ-loop
 same-length-4 c = c .before .loop .inv .spanLong ∙ sym (c .before .before .before .before .before .before .before .pre .1 .spanLong)
 
 returns-2 : tie.Need-returns-2 Inv-loop μ-loop
-returns-2 c = part-ends _ _ _ _ _ _ _ _ _ _ _ (c .before .loop .inv) (c .loop-test .left)
+returns-2 c = summed-all _ _ _ _ _ _ _ _ _ _ _ _ _ (c .before .loop .inv) (c .loop-test .left)
 
-pub part-totals-spec : {M : Type 1} → statement M
-part-totals-spec =
+pub window-sums-spec : {M : Type 1} → statement M
+window-sums-spec =
     tie.close
     (tie.spec
     Inv-loop
