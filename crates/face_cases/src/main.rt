@@ -30,11 +30,23 @@ fn listings() {
     // 1: a file under 16 bytes; 2: slot data odd; 3, 4: checkpoint and row data not whole; 5: two rows of one number
     listed(b"small.loc", b"small.loc.ovf", b"small.off");
     listed(b"odd_slots.loc", b"odd_slots.loc.ovf", b"odd_slots.off");
-    listed(b"ragged_checkpoints.loc", b"ragged_checkpoints.loc.ovf", b"ragged_checkpoints.off");
-    listed(b"ragged_rows.loc", b"ragged_rows.loc.ovf", b"ragged_rows.off");
+    listed(
+        b"ragged_checkpoints.loc",
+        b"ragged_checkpoints.loc.ovf",
+        b"ragged_checkpoints.off",
+    );
+    listed(
+        b"ragged_rows.loc",
+        b"ragged_rows.loc.ovf",
+        b"ragged_rows.off",
+    );
     listed(b"row_order.loc", b"row_order.loc.ovf", b"row_order.off");
     // a row missing in window 1: 17 after the lines of window 0; a row past byte 16,384, which is not read
-    listed(b"row_missing.loc", b"row_missing.loc.ovf", b"row_missing.off");
+    listed(
+        b"row_missing.loc",
+        b"row_missing.loc.ovf",
+        b"row_missing.off",
+    );
     listed(b"long.loc", b"long.loc.ovf", b"long.off");
     // no files, and one of three
     listed(b"missing.loc", b"missing.loc.ovf", b"missing.off");

@@ -30,7 +30,15 @@ same-length : tie.Need-same-length
 same-length c = search needs
 
 returns-2 : tie.Need-returns-2
-returns-2 c = line-put _ _ _ _ (c .before .before .before .before .before .before .before .before .before .before .before .before .before .before .before .before .before .before .before .before .before .before .before .before .if1 .left) (fields-line _ _ _ _ _ _ (c .before .before .before .before .before .before .before .before .before .before .before .before .before .before .before .before .before .before .before .before .before .before .put-field .ensures .0) (c .before .before .before .before .before .before .before .before .before .before .before .before .before .before .before .before .before .before .put-field2 .ensures .0) (c .before .before .before .before .before .before .before .before .before .before .before .before .before .before .put-field3 .ensures .0) (c .before .before .before .before .before .before .before .before .before .before .put-field4 .ensures .0) (c .before .before .before .before .before .before .put-field5 .ensures .0) (c .before .before .put-field6 .ensures .0)) (omega arith)
+returns-2 c =
+    let c₁ = c .before .before in
+    let c₂ = c₁ .before .before .before .before in
+    let c₃ = c₂ .before .before .before .before in
+    let c₄ = c₃ .before .before .before .before in
+    let c₅ = c₄ .before .before .before .before in
+    let c₆ = c₅ .before .before .before .before in
+    let c₇ = c₆ .before .before in
+    line-put _ _ _ _ (c₇ .if1 .left) (fields-line _ _ _ _ _ _ (c₆ .put-field .ensures .0) (c₅ .put-field2 .ensures .0) (c₄ .put-field3 .ensures .0) (c₃ .put-field4 .ensures .0) (c₂ .put-field5 .ensures .0) (c₁ .put-field6 .ensures .0)) (omega arith)
 
 pub line-text-spec : {M : Type 1} → statement M
 line-text-spec =

@@ -72,7 +72,14 @@ loop-less : tie.Need-loop-less Inv-loop μ-loop
 loop-less c = search needs
 
 loop-again : tie.Need-loop-again Inv-loop μ-loop
-loop-again c = (one-left _ _ _ _ _ _ _ _ _ _ (c .before .before .before .before .before .before .before .loop .inv .0) _ _ _ _ _ (c .before .before .before .before .before .next-state .ensures) (c .before .before .before .before .next-state2 .ensures) (omega arith) (omega arith) (omega arith) (omega arith) (omega (arith, c .before .before .before .before .before .before .before .before .before .before .before .before .before .pre .1, c .before .before .before .before .before .before .before .before .before .before .names-text .ensures .2)) _ _ (c .before .before .line-text .ensures .0), omega (arith, c .before .before .line-text .ensures .2), omega arith, omega arith, omega arith, search needs)
+loop-again c =
+    let c₁ = c .before .before in
+    let c₂ = c₁ .before .before in
+    let c₃ = c₂ .before in
+    let c₄ = c₃ .before .before in
+    let c₅ = c₄ .before .before .before in
+    let c₆ = c₅ .before .before .before in
+    (one-left _ _ _ _ _ _ _ _ _ _ (c₄ .loop .inv .0) _ _ _ _ _ (c₃ .next-state .ensures) (c₂ .next-state2 .ensures) (omega arith) (omega arith) (omega arith) (omega arith) (omega (arith, c₆ .pre .1, c₅ .names-text .ensures .2)) _ _ (c₁ .line-text .ensures .0), omega (arith, c₁ .line-text .ensures .2), omega arith, omega arith, omega arith, search needs)
 
 same-length : tie.Need-same-length Inv-loop μ-loop
 same-length c = search needs

@@ -56,7 +56,15 @@ enum-told-4 c = search needs
 
 returns-4 : tie.Need-returns-4
 unfolding lineAt
-returns-4 c = line-told _ _ (sym (goes _ _ _ _ _ _ (c .before .before .before .before .before .before .before .before .before .before .before .before .before .before .number-at .ensures) _ _ (c .before .before .before .before .before .before .before .before .before .before .before .before .first .given .1) ∙ goes _ _ _ _ _ _ (c .before .before .before .before .before .before .before .before .before .before .number-at2 .ensures) _ _ (c .before .before .before .before .before .before .before .before .second .given .1) ∙ goes _ _ _ _ _ _ (c .before .before .before .before .before .before .number-at3 .ensures) _ _ (c .before .before .before .before .third .given .1) ∙ stops _ _ _ _ _ _ (c .before .before .number-at4 .ensures) (c .enum-told4 .given .1)))
+returns-4 c =
+    let c₁ = c .before .before in
+    let c₂ = c₁ .before .before in
+    let c₃ = c₂ .before .before in
+    let c₄ = c₃ .before .before in
+    let c₅ = c₄ .before .before in
+    let c₆ = c₅ .before .before in
+    let c₇ = c₆ .before .before in
+    line-told _ _ (sym (goes _ _ _ _ _ _ (c₇ .number-at .ensures) _ _ (c₆ .first .given .1) ∙ goes _ _ _ _ _ _ (c₅ .number-at2 .ensures) _ _ (c₄ .second .given .1) ∙ goes _ _ _ _ _ _ (c₃ .number-at3 .ensures) _ _ (c₂ .third .given .1) ∙ stops _ _ _ _ _ _ (c₁ .number-at4 .ensures) (c .enum-told4 .given .1)))
 
 number-at-requires-5 : tie.Need-number-at-requires-5
 number-at-requires-5 c κs = search needs
@@ -69,7 +77,17 @@ enum-told-5 c = search needs
 
 returns-5 : tie.Need-returns-5
 unfolding lineAt
-returns-5 c = line-told _ _ (sym (goes _ _ _ _ _ _ (c .before .before .before .before .before .before .before .before .before .before .before .before .before .before .before .before .before .before .number-at .ensures) _ _ (c .before .before .before .before .before .before .before .before .before .before .before .before .before .before .before .before .first .given .1) ∙ goes _ _ _ _ _ _ (c .before .before .before .before .before .before .before .before .before .before .before .before .before .before .number-at2 .ensures) _ _ (c .before .before .before .before .before .before .before .before .before .before .before .before .second .given .1) ∙ goes _ _ _ _ _ _ (c .before .before .before .before .before .before .before .before .before .before .number-at3 .ensures) _ _ (c .before .before .before .before .before .before .before .before .third .given .1) ∙ goes _ _ _ _ _ _ (c .before .before .before .before .before .before .number-at4 .ensures) _ _ (c .before .before .before .before .fourth .given .1) ∙ stops _ _ _ _ _ _ (c .before .before .number-at5 .ensures) (c .enum-told5 .given .1)))
+returns-5 c =
+    let c₁ = c .before .before in
+    let c₂ = c₁ .before .before in
+    let c₃ = c₂ .before .before in
+    let c₄ = c₃ .before .before in
+    let c₅ = c₄ .before .before in
+    let c₆ = c₅ .before .before in
+    let c₇ = c₆ .before .before in
+    let c₈ = c₇ .before .before in
+    let c₉ = c₈ .before .before in
+    line-told _ _ (sym (goes _ _ _ _ _ _ (c₉ .number-at .ensures) _ _ (c₈ .first .given .1) ∙ goes _ _ _ _ _ _ (c₇ .number-at2 .ensures) _ _ (c₆ .second .given .1) ∙ goes _ _ _ _ _ _ (c₅ .number-at3 .ensures) _ _ (c₄ .third .given .1) ∙ goes _ _ _ _ _ _ (c₃ .number-at4 .ensures) _ _ (c₂ .fourth .given .1) ∙ stops _ _ _ _ _ _ (c₁ .number-at5 .ensures) (c .enum-told5 .given .1)))
 
 number-at-requires-6 : tie.Need-number-at-requires-6
 number-at-requires-6 c κs = search needs
@@ -82,14 +100,38 @@ enum-told-6 c = search needs
 
 returns-6 : tie.Need-returns-6
 unfolding lineAt
-returns-6 c = line-told _ _ (sym (goes _ _ _ _ _ _ (c .before .before .before .before .before .before .before .before .before .before .before .before .before .before .before .before .before .before .before .before .before .before .number-at .ensures) _ _ (c .before .before .before .before .before .before .before .before .before .before .before .before .before .before .before .before .before .before .before .before .first .given .1) ∙ goes _ _ _ _ _ _ (c .before .before .before .before .before .before .before .before .before .before .before .before .before .before .before .before .before .before .number-at2 .ensures) _ _ (c .before .before .before .before .before .before .before .before .before .before .before .before .before .before .before .before .second .given .1) ∙ goes _ _ _ _ _ _ (c .before .before .before .before .before .before .before .before .before .before .before .before .before .before .number-at3 .ensures) _ _ (c .before .before .before .before .before .before .before .before .before .before .before .before .third .given .1) ∙ goes _ _ _ _ _ _ (c .before .before .before .before .before .before .before .before .before .before .number-at4 .ensures) _ _ (c .before .before .before .before .before .before .before .before .fourth .given .1) ∙ goes _ _ _ _ _ _ (c .before .before .before .before .before .before .number-at5 .ensures) _ _ (c .before .before .before .before .fifth .given .1) ∙ stops _ _ _ _ _ _ (c .before .before .number-at6 .ensures) (c .enum-told6 .given .1)))
+returns-6 c =
+    let c₁ = c .before .before in
+    let c₂ = c₁ .before .before in
+    let c₃ = c₂ .before .before in
+    let c₄ = c₃ .before .before in
+    let c₅ = c₄ .before .before in
+    let c₆ = c₅ .before .before in
+    let c₇ = c₆ .before .before in
+    let c₈ = c₇ .before .before in
+    let c₉ = c₈ .before .before in
+    let c₁₀ = c₉ .before .before in
+    let c₁₁ = c₁₀ .before .before in
+    line-told _ _ (sym (goes _ _ _ _ _ _ (c₁₁ .number-at .ensures) _ _ (c₁₀ .first .given .1) ∙ goes _ _ _ _ _ _ (c₉ .number-at2 .ensures) _ _ (c₈ .second .given .1) ∙ goes _ _ _ _ _ _ (c₇ .number-at3 .ensures) _ _ (c₆ .third .given .1) ∙ goes _ _ _ _ _ _ (c₅ .number-at4 .ensures) _ _ (c₄ .fourth .given .1) ∙ goes _ _ _ _ _ _ (c₃ .number-at5 .ensures) _ _ (c₂ .fifth .given .1) ∙ stops _ _ _ _ _ _ (c₁ .number-at6 .ensures) (c .enum-told6 .given .1)))
 
 cast-spans : tie.Need-cast-spans
 cast-spans c = record { fits = count-fits _ _ _ (c .before .before .before .number-at6 .ensures) _ _ (c .before .sixth .given .1) }
 
 returns-7 : tie.Need-returns-7
 unfolding lineAt
-returns-7 c = line-told _ _ (sym (goes _ _ _ _ _ _ (c .before .before .before .before .before .before .before .before .before .before .before .before .before .before .before .before .before .before .before .before .before .before .before .number-at .ensures) _ _ (c .before .before .before .before .before .before .before .before .before .before .before .before .before .before .before .before .before .before .before .before .before .first .given .1) ∙ goes _ _ _ _ _ _ (c .before .before .before .before .before .before .before .before .before .before .before .before .before .before .before .before .before .before .before .number-at2 .ensures) _ _ (c .before .before .before .before .before .before .before .before .before .before .before .before .before .before .before .before .before .second .given .1) ∙ goes _ _ _ _ _ _ (c .before .before .before .before .before .before .before .before .before .before .before .before .before .before .before .number-at3 .ensures) _ _ (c .before .before .before .before .before .before .before .before .before .before .before .before .before .third .given .1) ∙ goes _ _ _ _ _ _ (c .before .before .before .before .before .before .before .before .before .before .before .number-at4 .ensures) _ _ (c .before .before .before .before .before .before .before .before .before .fourth .given .1) ∙ goes _ _ _ _ _ _ (c .before .before .before .before .before .before .before .number-at5 .ensures) _ _ (c .before .before .before .before .before .fifth .given .1) ∙ goes _ _ _ _ _ _ (c .before .before .before .number-at6 .ensures) _ _ (c .before .sixth .given .1)))
+returns-7 c =
+    let c₁ = c .before .before .before in
+    let c₂ = c₁ .before .before in
+    let c₃ = c₂ .before .before in
+    let c₄ = c₃ .before .before in
+    let c₅ = c₄ .before .before in
+    let c₆ = c₅ .before .before in
+    let c₇ = c₆ .before .before in
+    let c₈ = c₇ .before .before in
+    let c₉ = c₈ .before .before in
+    let c₁₀ = c₉ .before .before in
+    let c₁₁ = c₁₀ .before .before in
+    line-told _ _ (sym (goes _ _ _ _ _ _ (c₁₁ .number-at .ensures) _ _ (c₁₀ .first .given .1) ∙ goes _ _ _ _ _ _ (c₉ .number-at2 .ensures) _ _ (c₈ .second .given .1) ∙ goes _ _ _ _ _ _ (c₇ .number-at3 .ensures) _ _ (c₆ .third .given .1) ∙ goes _ _ _ _ _ _ (c₅ .number-at4 .ensures) _ _ (c₄ .fourth .given .1) ∙ goes _ _ _ _ _ _ (c₃ .number-at5 .ensures) _ _ (c₂ .fifth .given .1) ∙ goes _ _ _ _ _ _ (c₁ .number-at6 .ensures) _ _ (c .before .sixth .given .1)))
 
 pub line-at-spec : {M : Type 1} → statement M
 line-at-spec =

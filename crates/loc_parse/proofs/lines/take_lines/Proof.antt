@@ -63,7 +63,13 @@ same-length-8 : tie.Need-same-length-8 Inv-loop μ-loop
 same-length-8 c = search needs
 
 returns-2 : tie.Need-returns-2 Inv-loop μ-loop
-returns-2 c = record { same = turn-refused _ _ _ _ _ _ _ _ _ (c .before .before .before .before .before .before .before .before .loop .inv .0) (c .before .before .before .before .before .before .before .loop-test .taken) (c .before .before .before .before .before .before .before .before .loop .inv .1) (c .before .before .before .before .before .before .if1 .left) _ (is-line-told _ _ (c .before .before .before .before .before .line-at .ensures)) _ _ (c .before .before .before .line .given .1) _ (c .before .fields-refusal .ensures) (c .if2 .taken); few = c .before .before .before .before .before .before .before .before .loop .inv .1 }
+returns-2 c =
+    let c₁ = c .before .before .before in
+    let c₂ = c₁ .before .before in
+    let c₃ = c₂ .before in
+    let c₄ = c₃ .before in
+    let c₅ = c₄ .before in
+    record { same = turn-refused _ _ _ _ _ _ _ _ _ (c₅ .loop .inv .0) (c₄ .loop-test .taken) (c₅ .loop .inv .1) (c₃ .if1 .left) _ (is-line-told _ _ (c₂ .line-at .ensures)) _ _ (c₁ .line .given .1) _ (c .before .fields-refusal .ensures) (c .if2 .taken); few = c₅ .loop .inv .1 }
 
 mul-starts : tie.Need-mul-starts Inv-loop μ-loop
 mul-starts c = search needs
@@ -96,7 +102,13 @@ loop-less : tie.Need-loop-less Inv-loop μ-loop
 loop-less c = search needs
 
 loop-again : tie.Need-loop-again Inv-loop μ-loop
-loop-again c = (turn-more _ _ _ _ _ _ _ _ _ (c .before .before .before .before .before .before .before .before .loop .inv .0) (c .before .before .before .before .before .before .before .loop-test .taken) (c .before .before .before .before .before .before .before .before .loop .inv .1) (c .before .before .before .before .before .before .if1 .left) _ (is-line-told _ _ (c .before .before .before .before .before .line-at .ensures)) _ _ (c .before .before .before .line .given .1) _ (c .before .fields-refusal .ensures) (c .if2 .left) (c .before .before .before .before .before .before .before .before .loop .inv .2), omega arith, room-kept _ _ _ _ _ _ _ _ _ (c .before .before .before .before .before .before .before .before .loop .inv .2), simp length-set (c .before .before .before .before .before .before .before .before .loop .inv .3), simp length-set (c .before .before .before .before .before .before .before .before .loop .inv .4), simp length-set (c .before .before .before .before .before .before .before .before .loop .inv .5), simp length-set (c .before .before .before .before .before .before .before .before .loop .inv .6))
+loop-again c =
+    let c₁ = c .before .before .before in
+    let c₂ = c₁ .before .before in
+    let c₃ = c₂ .before in
+    let c₄ = c₃ .before in
+    let c₅ = c₄ .before in
+    (turn-more _ _ _ _ _ _ _ _ _ (c₅ .loop .inv .0) (c₄ .loop-test .taken) (c₅ .loop .inv .1) (c₃ .if1 .left) _ (is-line-told _ _ (c₂ .line-at .ensures)) _ _ (c₁ .line .given .1) _ (c .before .fields-refusal .ensures) (c .if2 .left) (c₅ .loop .inv .2), omega arith, room-kept _ _ _ _ _ _ _ _ _ (c₅ .loop .inv .2), simp length-set (c₅ .loop .inv .3), simp length-set (c₅ .loop .inv .4), simp length-set (c₅ .loop .inv .5), simp length-set (c₅ .loop .inv .6))
 
 enum-told : tie.Need-enum-told Inv-loop μ-loop
 enum-told c = search needs
