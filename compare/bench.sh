@@ -6,7 +6,7 @@
 #   sh compare/bench.sh --document         all tables, put into docs/PERFORMANCE.md from its section Result to its last section
 set -eu
 cd "$(dirname "$0")/.."
-sh compare/build.sh
+sh compare/build.sh bench load
 if [ "${1:-}" != --document ]; then
     exec compare/target/release/bench "$@"
 fi

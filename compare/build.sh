@@ -1,5 +1,5 @@
 #!/bin/sh
-# The archive of the exported calls, the program face_load, and the test host, which links the one and runs the other.
+# The archive of the exported calls, the program face_load, and the binaries of the test host that are named, which link the one and run the other.
 # What is up to date is not made again: archive and program if they are younger than every file of the crates.
 set -eu
 cd "$(dirname "$0")/.."
@@ -11,4 +11,8 @@ if [ ! -f "$program" ] || [ -n "$(find crates crates.txt -newer "$program" -type
         exit 1
     }
 fi
-cargo build --release --offline --quiet -j1 --manifest-path compare/Cargo.toml
+for binary; do
+    set -- "$@" --bin "$binary"
+    shift
+done
+cargo build --release --offline --quiet -j1 --manifest-path compare/Cargo.toml "$@"

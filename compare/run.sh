@@ -6,6 +6,6 @@
 # Needs rt, cargo and the original's source at ../shared/docs/src (or where ORIGINAL says, an absolute path).
 set -eu
 cd "$(dirname "$0")/.."
-sh compare/build.sh
+sh compare/build.sh compare
 [ $# -gt 0 ] || set -- --histories 60000
 exec compare/target/release/compare "$@"

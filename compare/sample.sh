@@ -3,7 +3,7 @@
 # The sample is the same at every run: its seeds are fixed.
 set -eu
 cd "$(dirname "$0")/.."
-sh compare/build.sh
+sh compare/build.sh sample
 said=$(compare/target/release/sample crates/loc_replay/data/answers)
 echo "$said"
 answers=$(printf "%s" "$said" | sed -n "s/.* cases, \([0-9]*\) answers.*/\1/p")
