@@ -1,4 +1,3 @@
-pub mod RunLaws
 pub mod WindowLaws
 pub mod WalkLaws
 pub mod ReadLaws

@@ -30,7 +30,7 @@ use Rattle.loc_answer.proofs.AnswerLaws.{answered-is}
 use Rattle.loc_store.proofs.SettledLaws.{accepted-sized, accepted-ascends}
 use Rattle.loc_read.specs.Walk.{Readable, Answered, Finished}
 use Rattle.loc_read.specs.Read.{Tested}
-use Rattle.loc_read.proofs.RunLaws.{key-within, own-number}
+use Rattle.loc_runs.proofs.RunLaws.{key-within, own-number}
 
 -- words that are as they were from a place on
 straight : (x : ℕ) (old new : List ℕ) → length new ≡ length old → SamePast x old new → new ≡ take x new ++ drop x old

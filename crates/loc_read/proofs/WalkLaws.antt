@@ -26,9 +26,9 @@ use Rattle.loc_answer.proofs.AnswerLaws.{zeros-has}
 use Rattle.loc_window.specs.declared.Sums.{Sums}
 use Rattle.loc_window.specs.Window.{windowAreas, complete, SumsStored, Summing, Copied}
 use Rattle.loc_window.proofs.SummingLaws.{summed-known, summed-stored}
-use Rattle.loc_read.specs.Runs.{IsRun}
+use Rattle.loc_runs.specs.Runs.{IsRun}
 use Rattle.loc_read.specs.Walk.{Readable, rightAt, HasRight, Passing, Answered, Finished}
-use Rattle.loc_read.proofs.RunLaws.{looked-few, looked-counted, key-there, key-some, key-counted, own-number}
+use Rattle.loc_runs.proofs.RunLaws.{looked-few, looked-counted, key-there, key-some, key-counted, own-number}
 use Rattle.loc_read.proofs.WindowLaws.{window-lacks, window-complete, window-summed, window-words}
 
 pub ordered-keys : (n : ℕ) (ids keys : List ℕ) → length ids ≤ 1024 → keys ≡ sorted (keysFrom n 0 ids) → All (KeyOf n ids) keys

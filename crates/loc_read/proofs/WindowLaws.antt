@@ -25,9 +25,9 @@ use Rattle.loc_window.specs.Window.{windowAreas, complete, Rising, sumsOf, Righ
 use Rattle.loc_window.proofs.SumLaws.{all-more}
 use Rattle.loc_window.proofs.WindowLaws.{past-rows, complete-same, right-strides, right-spans}
 use Rattle.loc_window.proofs.SummingLaws.{summing-begins}
-use Rattle.loc_read.specs.Runs.{IsRun}
+use Rattle.loc_runs.specs.Runs.{IsRun}
 use Rattle.loc_read.specs.Walk.{Readable}
-use Rattle.loc_read.proofs.RunLaws.{looked-own, key-some, key-counted}
+use Rattle.loc_runs.proofs.RunLaws.{looked-own, key-some, key-counted}
 
 -- ---- where the slot loop begins
 

@@ -8,7 +8,6 @@ ghost use Rattle.loc_calls.specs.Table.{wordWidth, read};
 ghost use Rattle.loc_calls.specs.Calls.{call};
 ghost use Rattle.loc_calls.specs.Promises.{Read};
 ghost use Rattle.loc_read.specs.Read.{Tested};
-use crate::runs::one_window;
 use crate::walk::finish_range_batch;
 use crate::window::read_window;
 use loc_answer::put::copy_words;
@@ -17,6 +16,7 @@ use loc_leaf::Answer;
 use loc_leaf::Kind;
 use loc_leaf::delta_loc::row_width;
 use loc_order::keys::plan_range_batch;
+use loc_runs::runs::one_window;
 use loc_store::check::call_refusal;
 use loc_store::plan::piece_count;
 

@@ -10,7 +10,7 @@ ghost use Rattle.loc_calls.specs.Table.{read};
 ghost use Rattle.loc_calls.specs.Calls.{call};
 ghost use Rattle.loc_calls.specs.Promises.{Read};
 ghost use Rattle.loc_window.specs.Window.{windowAreas, complete, sumsOf, Summing};
-ghost use Rattle.loc_read.specs.Runs.{OneRun};
+ghost use Rattle.loc_runs.specs.Runs.{OneRun};
 ghost use Rattle.loc_read.specs.Walk.{WindowSummed};
 ghost use Rattle.loc_read.specs.Read.{Tested};
 use loc_answer::put::put_window;

@@ -3,7 +3,7 @@ use Prim.Native.Nat.{ℕ}
 use mathlib.Core.Path.{_∙_}
 use lib.ListN.{length-replicate}
 use borrow.Author.Needs.{needs}
-use Rattle.loc_read.proofs.RunLaws.{one-count}
+use Rattle.loc_runs.proofs.RunLaws.{one-count}
 use Rattle.loc_read.proofs.read.read_tested.Statement.{statement}
 use Rattle.loc_read.proofs.read.read_tested.Tie as tie
 

@@ -13,7 +13,7 @@ use Rattle.loc_window.proofs.SummingLaws.{summing-asks, summing-more, summing-n
 use Rattle.loc_window.proofs.CheckpointLaws.{end-of-bodies, end-of-spans}
 use Rattle.loc_read.proofs.WindowLaws.{summing-none}
 use Rattle.loc_read.proofs.WalkLaws.{run-published, ordered-keys, passing-none, run-few, run-room, run-low, run-lacks, run-safe, passing-next, finished-17, finished-0}
-use Rattle.loc_read.proofs.RunLaws.{key-there}
+use Rattle.loc_runs.proofs.RunLaws.{key-there}
 use Rattle.loc_read.specs.Walk.{Passing}
 use Rattle.loc_read.proofs.walk.finish_range_batch.Statement.{statement}
 use Rattle.loc_read.proofs.walk.finish_range_batch.Tie as tie

@@ -6,7 +6,7 @@ use lib.ListN.{length-replicate}
 use borrow.Author.Needs.{needs}
 use denote.Ref.{now}
 use Rattle.loc_leaf.specs.Area.{fill}
-use Rattle.loc_read.proofs.RunLaws.{own-first, own-some}
+use Rattle.loc_runs.proofs.RunLaws.{own-first, own-some}
 use Rattle.loc_window.proofs.CheckpointLaws.{end-of-bodies, end-of-spans}
 use Rattle.loc_read.proofs.WindowLaws.{summing-none}
 use Rattle.loc_read.proofs.WalkLaws.{passing-none, run-few, run-room, run-low, run-lacks, run-safe, passing-next, finished-17, finished-own}

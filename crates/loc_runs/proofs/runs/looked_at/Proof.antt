@@ -1,8 +1,8 @@
--- `loc_read::runs::looked_at` meets its contract.
+-- `loc_runs::runs::looked_at` meets its contract.
 use borrow.Author.Needs.{needs}
-use Rattle.loc_read.proofs.RunLaws.{looked-paired, looked-single}
-use Rattle.loc_read.proofs.runs.looked_at.Statement.{statement}
-use Rattle.loc_read.proofs.runs.looked_at.Tie as tie
+use Rattle.loc_runs.proofs.RunLaws.{looked-paired, looked-single}
+use Rattle.loc_runs.proofs.runs.looked_at.Statement.{statement}
+use Rattle.loc_runs.proofs.runs.looked_at.Tie as tie
 
 enum-told : tie.Need-enum-told
 enum-told c = search needs

@@ -1,9 +1,9 @@
--- `loc_read::runs::in_window` meets its contract.
+-- `loc_runs::runs::in_window` meets its contract.
 use mathlib.Core.Path.{sym, _∙_}
 use mathlib.Core.Bool.{false≢true}
 use borrow.Author.Needs.{needs}
-use Rattle.loc_read.proofs.runs.in_window.Statement.{statement}
-use Rattle.loc_read.proofs.runs.in_window.Tie as tie
+use Rattle.loc_runs.proofs.runs.in_window.Statement.{statement}
+use Rattle.loc_runs.proofs.runs.in_window.Tie as tie
 
 in-range-requires : tie.Need-in-range-requires
 in-range-requires c κs = search needs

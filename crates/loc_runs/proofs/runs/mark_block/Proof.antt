@@ -1,11 +1,11 @@
--- `loc_read::runs::mark_block` meets its contract.
+-- `loc_runs::runs::mark_block` meets its contract.
 use Prim.Native.Nat.{ℕ, _/_, max}
 use mathlib.Core.Path.{ap, _∙_}
 use lib.ListN.{set}
 use borrow.Author.Needs.{needs}
 use denote.Ref.{now}
-use Rattle.loc_read.proofs.runs.mark_block.Statement.{statement}
-use Rattle.loc_read.proofs.runs.mark_block.Tie as tie
+use Rattle.loc_runs.proofs.runs.mark_block.Statement.{statement}
+use Rattle.loc_runs.proofs.runs.mark_block.Tie as tie
 
 loc-within-requires : tie.Need-loc-within-requires
 loc-within-requires c κs = search needs

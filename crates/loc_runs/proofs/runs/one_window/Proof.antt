@@ -1,4 +1,4 @@
--- `loc_read::runs::one_window` meets its contract.
+-- `loc_runs::runs::one_window` meets its contract.
 use Prim.Native.Nat.{ℕ, _-_, _/_, _≤_, _<_}
 use mathlib.Core.Path.{_≡_, refl, sym, ap, _∙_}
 use mathlib.Core.Bool.{true}
@@ -10,10 +10,10 @@ use denote.Ref.{now}
 use Rattle.loc_leaf.specs.Kind.{windowOf}
 use Rattle.loc_calls.specs.Reading.{lookedAt, within}
 use Rattle.loc_order.specs.Keys.{placesFrom}
-use Rattle.loc_read.specs.Runs.{IsRun}
-use Rattle.loc_read.proofs.RunLaws.{within-some, within-counted, larger-window, one-first, one-next, one-run-looked, within-next}
-use Rattle.loc_read.proofs.runs.one_window.Statement.{statement}
-use Rattle.loc_read.proofs.runs.one_window.Tie as tie
+use Rattle.loc_runs.specs.Runs.{IsRun}
+use Rattle.loc_runs.proofs.RunLaws.{within-some, within-counted, larger-window, one-first, one-next, one-run-looked, within-next}
+use Rattle.loc_runs.proofs.runs.one_window.Statement.{statement}
+use Rattle.loc_runs.proofs.runs.one_window.Tie as tie
 
 abbrev Inv-loop : tie.InvT-loop
 Inv-loop kind count wanted mark₀ id w most₀ p₀ mark most p = (length mark ≡ 128) × (0 < p) × (p ≤ length wanted) × IsRun kind count wanted (placesFrom 0 (length wanted)) 0 p (lookedAt kind count most) 1 mark × ((q : ℕ) → q < p → within count (getD wanted q 0) ≡ true) × (windowOf most ≡ w) × (0 < most) × (most ≤ count)

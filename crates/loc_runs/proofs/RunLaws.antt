@@ -22,7 +22,7 @@ use Rattle.loc_order.specs.Keys.{placesFrom, placeOf, wantedBy, KeyOf}
 use Rattle.loc_order.proofs.OrderLaws.{all-at, all-of}
 use Rattle.loc_order.proofs.KeyLaws.{places-length, places-at}
 use Rattle.loc_answer.specs.Words.{AllSome}
-use Rattle.loc_read.specs.Runs.{IsRun, OneRun}
+use Rattle.loc_runs.specs.Runs.{IsRun, OneRun}
 
 -- ---- looked at
 

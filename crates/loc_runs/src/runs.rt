@@ -8,7 +8,7 @@ ghost use Rattle.loc_leaf.specs.Kind.{windowOf, withinWindow};
 ghost use Rattle.loc_calls.specs.Reading.{before, lookedAt, within};
 ghost use Rattle.loc_order.specs.Order.{All};
 ghost use Rattle.loc_order.specs.Keys.{placeOf, wantedBy, KeyOf};
-ghost use Rattle.loc_read.specs.Runs.{IsRun, OneRun};
+ghost use Rattle.loc_runs.specs.Runs.{IsRun, OneRun};
 use crate::Run;
 use loc_leaf::Kind;
 use loc_leaf::delta_loc::LOC_WINDOW;

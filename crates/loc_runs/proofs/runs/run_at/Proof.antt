@@ -1,15 +1,15 @@
--- `loc_read::runs::run_at` meets its contract.
+-- `loc_runs::runs::run_at` meets its contract.
 use Prim.Native.Nat.{_-_}
 use mathlib.Core.Path.{ap, _∙_, _≡_}
 use native.Mathlib.Omega.{arith}
 use lib.ListN.{length}
 use borrow.Author.Needs.{needs}
 use denote.Ref.{now}
-use Rattle.loc_read.proofs.RunLaws.{key-there, key-some, key-counted, run-first, run-next}
+use Rattle.loc_runs.proofs.RunLaws.{key-there, key-some, key-counted, run-first, run-next}
 use Rattle.loc_leaf.specs.Kind.{windowOf}
-use Rattle.loc_read.specs.Runs.{IsRun}
-use Rattle.loc_read.proofs.runs.run_at.Statement.{statement}
-use Rattle.loc_read.proofs.runs.run_at.Tie as tie
+use Rattle.loc_runs.specs.Runs.{IsRun}
+use Rattle.loc_runs.proofs.runs.run_at.Statement.{statement}
+use Rattle.loc_runs.proofs.runs.run_at.Tie as tie
 
 abbrev Inv-loop : tie.InvT-loop
 Inv-loop kind count wanted keys from stamp mark₀ id w m₀ end₀ mark m end = (length mark ≡ 128) × IsRun kind count wanted keys from end m stamp mark
