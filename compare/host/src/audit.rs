@@ -1,8 +1,9 @@
 //! Audit, which the original does not have: its value is worked out from the original's own readings.
 //! Every record is read; the lengths are summed without a limit and held against the checkpoints' bytes, and each published row's values against its slot's.
 use crate::areas::{self, Kind, CHECKPOINTS, ROWS, SLOTS};
+use crate::call::Outcome;
 use crate::judge::Refusal;
-use crate::trial::{Outcome, Trial};
+use crate::trial::Trial;
 
 /// What the original's readings show: document 01's conditions, and with them document 02's on published rows.
 pub struct Shown {

@@ -1,39 +1,13 @@
 //! The original on its files, in a folder of a memory file system.
 //! Its refusals are turned into the table's numbers by their messages.
 use crate::areas::{Areas, Kind};
-use crate::carry::Starts;
+use crate::call::Batch;
 use original::create_loc::{CreateLoc, CreateLocAppend};
 use original::delta_loc::DeltaLoc;
 use original::error::StoreError;
 use original::io_handle::{cut_after, writes, IoHandle, Write};
 use original::Fk;
 use std::path::{Path, PathBuf};
-
-/// A batch of records: four lists where paired, the first two where single.
-#[derive(Clone, Debug, Default, PartialEq, Eq)]
-pub struct Batch {
-    pub starts: Vec<u64>,
-    pub lens: Vec<u64>,
-    pub span_starts: Vec<u64>,
-    pub spans: Vec<u32>,
-}
-
-impl Batch {
-    /// One record whose body and spans start here.
-    pub fn one(kind: Kind, (start, span_start): Starts, len: u64, spans: u32) -> Batch {
-        let (span_starts, spans) = match kind {
-            Kind::Paired => (vec![span_start], vec![spans]),
-            Kind::Single => (Vec::new(), Vec::new()),
-        };
-        Batch { starts: vec![start], lens: vec![len], span_starts, spans }
-    }
-
-    /// Whether its lists differ in length.
-    pub fn uneven(&self, kind: Kind) -> bool {
-        let n = self.starts.len();
-        n != self.lens.len() || kind == Kind::Paired && (n != self.span_starts.len() || n != self.spans.len())
-    }
-}
 
 /// A refusal of the original: the number, or what it said where the table has none for it.
 #[derive(Clone, Debug, PartialEq, Eq)]

@@ -3,9 +3,11 @@
 
 pub mod areas;
 pub mod audit;
+pub mod call;
 pub mod carry;
 pub mod damage;
 pub mod history;
+pub mod inputs;
 pub mod judge;
 pub mod listing;
 pub mod load;

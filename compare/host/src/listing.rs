@@ -1,14 +1,14 @@
 //! Listings read back into a paired index, which the original does not do: a reader in plain Rust says what a text is.
 //! What it refuses the port refuses with the same number, and what does not carry on too; of the rest the port's append of the batch shows what is stored, at every place.
 use crate::areas::{self, empty, Areas, Kind};
+use crate::call::{Batch, Outcome};
 use crate::carry;
 use crate::damage::damage;
-use crate::history::{batch, composed, Style};
-use crate::judge::{Batch, Folder};
+use crate::inputs::{batch, composed, starts, Style};
+use crate::judge::Folder;
 use crate::pick::Pick;
 use crate::port;
 use crate::tally::Tally;
-use crate::trial::Outcome;
 
 const NAMES: &str = "record body_start body_len span_start span_len spans\n";
 const MOST_LINES: usize = 1024;
@@ -206,7 +206,7 @@ fn records(areas: &Areas, count: u64, style: &Style, pick: &mut Pick) -> Batch {
     } else {
         pick.of(&[0, 1, 1, 2, 2, 3, 8, any])
     };
-    let starts = carry::starts(Kind::Paired, areas, count, style, pick);
+    let starts = starts(Kind::Paired, areas, count, style, pick);
     let mut b = batch(Kind::Paired, style, pick, n, starts);
     let whole = b.starts.len().min(b.lens.len()).min(b.span_starts.len()).min(b.spans.len());
     b.starts.truncate(whole);

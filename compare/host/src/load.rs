@@ -1,13 +1,12 @@
 //! The load of a seed, which the original does not make: plain Rust, written from the rules, reads the input, draws the records and spells the text.
 //! The program has to print just that. The listing of a load, read back by the port into a fresh index, stores what the original stores of the same batch.
 use crate::areas::{empty, first_difference, Kind};
-use crate::carry::FIRST;
-use crate::judge::{Batch, Folder};
+use crate::call::{Batch, Outcome, FIRST};
+use crate::judge::Folder;
 use crate::listing::{decimal, print};
 use crate::pick::Pick;
 use crate::port;
 use crate::tally::Tally;
-use crate::trial::Outcome;
 use std::io::Write;
 use std::process::{Command, Stdio};
 

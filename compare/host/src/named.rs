@@ -1,11 +1,12 @@
 //! Cases that document 01 names with their values, on both sides, the order of refusals in a record, where a batch has to begin, and which rows a slot wants.
 //! Document 01's starred ones are proved; those here are the ones that it leaves to this program, and their neighbours.
 use crate::areas::{empty, put, row, store_len, Areas, Kind, CHECKPOINTS, ROWS, SLOTS};
-use crate::judge::{Batch, Folder};
+use crate::call::{Batch, Call, Outcome};
+use crate::judge::Folder;
 use crate::port;
 use crate::tally::Tally;
 use crate::tape::Tape;
-use crate::trial::{Call, Outcome, Trial};
+use crate::trial::Trial;
 
 /// Records with slot 1, 1; rows and checkpoints by hand.
 pub fn areas(kind: Kind, records: usize, checkpoints: usize, rows: &[Vec<u8>], published: usize) -> Areas {

@@ -1,7 +1,7 @@
 //! The port's calls, as the static library exports them.
 //! A slice is a pointer and a length in elements; the value comes back through a pointer.
 use crate::areas::{Areas, Kind};
-use crate::judge::Batch;
+use crate::call::Batch;
 
 #[rustfmt::skip]
 mod c {

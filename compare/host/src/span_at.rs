@@ -1,8 +1,9 @@
 //! Whose crossing is at an address, which the original does not say: plain Rust works it out from the original's readings of every record.
 //! 1 is told from the areas' sizes, 6 from the original's opening, and 17 is the original's.
 use crate::areas::{pieces, put, row, Areas, Kind, CHECKPOINTS, ROWS};
+use crate::call::Outcome;
 use crate::damage;
-use crate::history::Style;
+use crate::inputs::Style;
 use crate::judge::{Folder, Refusal};
 use crate::listing::index;
 use crate::named;
@@ -10,7 +11,6 @@ use crate::pick::Pick;
 use crate::port::{self, Crossing};
 use crate::sweep;
 use crate::tally::Tally;
-use crate::trial::Outcome;
 
 /// Where a record's spans start, and how many there are.
 type Spans = (u64, u64);

@@ -1,11 +1,12 @@
 //! Small worlds in full: every combination of a few lengths, slots and rows around the rules' limits.
 //! Random histories seldom meet these all; here none is left out.
 use crate::areas::{count, empty, put, row, store_len, Areas, Kind, CHECKPOINTS, ROWS, SLOTS};
+use crate::call::{Batch, Call, Outcome};
 use crate::carry;
-use crate::judge::{Batch, Folder};
+use crate::judge::Folder;
 use crate::pick::Pick;
 use crate::tally::Tally;
-use crate::trial::{Call, Outcome, Trial};
+use crate::trial::Trial;
 
 /// How many worlds there were, or a difference.
 pub fn run(folder: &Folder, tally: &mut Tally) -> Result<u64, (String, Vec<String>)> {

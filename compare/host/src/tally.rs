@@ -1,30 +1,8 @@
 //! How much was compared: calls of each kind, and how often each number came.
 //! A run in which some number never came is reported as incomplete.
 use crate::areas::Kind;
+use crate::call::{What, WHATS};
 use crate::port::Crossing;
-
-#[derive(Clone, Copy, Debug, PartialEq, Eq)]
-pub enum What {
-    Create,
-    Open,
-    Append,
-    Truncate,
-    Read,
-    TornOpen,
-    TornAppend,
-    TornTruncate,
-}
-
-pub const WHATS: [(What, &str); 8] = [
-    (What::Create, "create"),
-    (What::Open, "open"),
-    (What::Append, "append"),
-    (What::Truncate, "truncate"),
-    (What::Read, "read"),
-    (What::TornOpen, "torn open"),
-    (What::TornAppend, "torn append"),
-    (What::TornTruncate, "torn truncate"),
-];
 
 /// 0 and the numbers of the table.
 pub const NUMBERS: usize = 27;

@@ -1,9 +1,8 @@
 //! The original's answers as a list of steps, for a program that replays them without any Rust.
 //! A step changes the expected bytes, or makes a call whose number, value, answers and bytes the original gave, or its readings do (`audit.rs`, `carry.rs`).
 use crate::areas::{Areas, Kind};
-use crate::judge::Batch;
+use crate::call::{Batch, Call};
 use crate::tally::NUMBERS;
-use crate::trial::Call;
 
 /// Where the three areas begin in the replay's one array of expected bytes, and how long that is.
 pub const FROM: [usize; 4] = [0, 4224, 6272, 6400];

@@ -1,12 +1,12 @@
 //! Calls that stop on the way: the port at fewer places, the original cut after fewer of its writes.
 //! Every state of the one has to be a state of the other, in the same order.
 use crate::areas::{self, counted, first_difference, Areas};
+use crate::call::{Call, Outcome, What};
 use crate::carry;
 use crate::judge::{Judge, Refusal};
 use crate::pick::Pick;
 use crate::port;
-use crate::tally::What;
-use crate::trial::{Call, Outcome, Trial};
+use crate::trial::Trial;
 use original::io_handle::{cut_after, writes, Write};
 
 impl Trial<'_> {

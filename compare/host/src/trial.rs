@@ -1,46 +1,13 @@
 //! One history: the port's areas and the original's files go through the same calls.
 //! After each call number, value, answer words, counted lengths and all bytes from 8 on are held against each other.
 use crate::areas::{self, counted, first_difference, Areas, Kind};
+use crate::call::{Batch, Call, Outcome, What};
 use crate::carry;
-use crate::judge::{Batch, Folder, Judge, Refusal};
+use crate::judge::{Folder, Judge, Refusal};
 use crate::port;
-use crate::tally::{Tally, What};
+use crate::tally::Tally;
 use crate::tape::{Tape, ALL};
 use original::io_handle::cut_after;
-
-#[derive(Clone, Debug)]
-pub enum Call {
-    Open,
-    Append(Batch),
-    Truncate(u64),
-    Read(Vec<u64>),
-}
-
-impl Call {
-    pub fn what(&self) -> What {
-        match self {
-            Call::Open => What::Open,
-            Call::Append(_) => What::Append,
-            Call::Truncate(_) => What::Truncate,
-            Call::Read(_) => What::Read,
-        }
-    }
-
-    fn text(&self) -> String {
-        let text = format!("{self:?}");
-        if text.len() < 400 {
-            return text;
-        }
-        match self {
-            Call::Append(b) => format!("append of {} records", b.starts.len()),
-            Call::Read(w) => format!("read of {} numbers", w.len()),
-            _ => text,
-        }
-    }
-}
-
-/// The message of a difference.
-pub type Outcome<T> = Result<T, String>;
 
 pub struct Trial<'a> {
     pub kind: Kind,

@@ -1,7 +1,8 @@
 //! An index for the benchmark, with the same bytes in the port's areas and in the original's files.
 //! Records follow from the sizes by a seed, so that every run has the same data.
 use host::areas::{empty, pieces, Areas, Kind, ROWS};
-use host::judge::{Batch, Folder, Judge};
+use host::call::Batch;
+use host::judge::{Folder, Judge};
 use host::pick::Pick;
 use host::port;
 
