@@ -1,16 +1,20 @@
 -- The bytes of a word, and a word as four lanes of sixteen bits: what masks, sums and shifts do in each lane.
 -- The laws say it of the steps of src/loc_simd.rt, whose two words are a block.
 use mathlib.Core.Path.{_≡_, refl, sym, ap, _∙_}
-use mathlib.Core.Bool.{cond}
+use mathlib.Core.Bool.{Bool, true, false, cond}
 use mathlib.Core.List.{List, [], _∷_, _++_}
 use Prim.Native.Nat.{ℕ, zero, suc, _+_, _-_, _*_, _/_, _%_, _^_, _<_}
+use native.Mathlib.Nat.{mod-lt}
 use native.Mathlib.Omega.{arith}
 use lib.Dec.{eqb}
 use lib.Count.{under, trailingZeros}
-use lib.Pow.{shr-shr, low}
+use lib.Pow.{pow-pos, shr-shr, low, split}
 use lib.Bits.{bitAnd, and-lt, and-block, and-mask, and-high, and-shr, and-zero-r}
+use borrow.Author.Tests.{ne-eqb}
+use Rattle.loc_leaf.specs.declared.Kind.the-variants.{Paired}
 use Rattle.loc_leaf.specs.Bytes.{bytes}
-use Rattle.loc_leaf.specs.Block.{firsts, seconds, zeroBit, zeroMask, running, lowest, lanesOf}
+use Rattle.loc_leaf.specs.Slot.{needsRow}
+use Rattle.loc_leaf.specs.Block.{firsts, seconds, running, lowest, lanesOf}
 
 -- ---- four numbers, one for each record of a word
 
@@ -72,13 +76,6 @@ firsts-8 : (w : ℕ) → firsts (bytes 8 w) ≡ list (first w)
 unfolding firsts
 firsts-8 w = ap firsts (bytes-8 w)
 
--- as first_bytes takes them
-pub masked : (w : ℕ)
-    → bitAnd w 255 ∷ bitAnd (w / 2 ^ 16) 255 ∷ bitAnd (w / 2 ^ 32) 255 ∷ bitAnd (w / 2 ^ 48) 255 ∷ [] ≡ firsts (bytes 8 w)
-masked w =
-    (λ i. and-mask w 8 i ∷ and-mask (w / 2 ^ 16) 8 i ∷ and-mask (w / 2 ^ 32) 8 i ∷ and-mask (w / 2 ^ 48) 8 i ∷ [])
-    ∙ sym (firsts-8 w)
-
 -- the second bytes of a block are the first bytes of its words shifted by a byte
 pub shifted-firsts : (lo hi : ℕ) → firsts (bytes 8 (lo / 2 ^ 8) ++ bytes 8 (hi / 2 ^ 8)) ≡ seconds (bytes 8 lo ++ bytes 8 hi)
 unfolding firsts seconds bytes
@@ -118,22 +115,27 @@ byte-mask = 0x00ff_00ff_00ff_00ff
 abbrev pub carry-mask : ℕ
 carry-mask = 0x0100_0100_0100_0100
 
--- the first bytes of a word, each in its lane
-first-lanes : (w : ℕ) → w < 2 ^ 64 → bitAnd w byte-mask ≡ word (first w)
-first-lanes w h =
-    let q : Four (2 ^ 16) =
-    four (w % 2 ^ 16) (w / 2 ^ 16 % 2 ^ 16) (w / 2 ^ 32 % 2 ^ 16) (w / 2 ^ 48) (omega arith) (omega arith) (omega arith) (omega arith) in
-    let parted : w ≡ word q = omega arith in
-    let byte : (n : ℕ) → bitAnd (n % 2 ^ 16) 255 ≡ n % 256 = (λ n. and-mask (n % 2 ^ 16) 8 ∙ omega arith) in
-    ap (λ (n : ℕ). bitAnd n byte-mask) parted ∙ and-lanes q (each 255 (omega arith))
-    ∙ lanes-cong (byte w) (byte (w / 2 ^ 16)) (byte (w / 2 ^ 32)) (and-mask (w / 2 ^ 48) 8)
+-- a mask takes the parts above and below a bit by themselves
+pub and-parts : (w k m n : ℕ) → n < 2 ^ k → bitAnd w (m * 2 ^ k + n) ≡ bitAnd (w / 2 ^ k) m * 2 ^ k + bitAnd (w % 2 ^ k) n
+and-parts w k m n h = ap (λ (v : ℕ). bitAnd v (m * 2 ^ k + n)) (sym (split w k)) ∙ and-block k (w / 2 ^ k) m (w % 2 ^ k) n (mod-lt w (pow-pos k)) h
 
-shifted : (w k : ℕ) → w / 2 ^ 8 / 2 ^ k % 256 ≡ w / 2 ^ (8 + k) % 256
-shifted w k = ap (λ (n : ℕ). n % 256) (shr-shr w 8 k)
+half-bytes : (w : ℕ) → bitAnd w 0xff_00ff ≡ (w / 2 ^ 16 % 2 ^ 8) * 2 ^ 16 + w % 2 ^ 8
+half-bytes w =
+    let e : w % 2 ^ 16 % 2 ^ 8 ≡ w % 2 ^ 8 = omega arith in
+    and-parts w 16 0xff 0xff (omega arith) ∙ (λ i. and-mask (w / 2 ^ 16) 8 i * 2 ^ 16 + (and-mask (w % 2 ^ 16) 8 ∙ e) i)
+
+-- the first bytes of a word, each in its lane
+pub byte-parts : (w : ℕ) → bitAnd w byte-mask ≡ lanes (w % 256) (w / 2 ^ 16 % 256) (w / 2 ^ 32 % 256) (w / 2 ^ 48 % 256)
+byte-parts w =
+    let e : w % 2 ^ 32 / 2 ^ 16 % 2 ^ 8 ≡ w / 2 ^ 16 % 2 ^ 8 = omega arith in
+    let f : w % 2 ^ 32 % 2 ^ 8 ≡ w % 2 ^ 8 = omega arith in
+    and-parts w 32 0xff_00ff 0xff_00ff (omega arith)
+    ∙ (λ i. half-bytes (w / 2 ^ 32) i * 2 ^ 32 + half-bytes (w % 2 ^ 32) i)
+    ∙ (λ i. (shr-shr w 32 16 i % 2 ^ 8 * 2 ^ 16 + w / 2 ^ 32 % 2 ^ 8) * 2 ^ 32 + (e i * 2 ^ 16 + f i)) ∙ omega arith
 
 -- the second bytes
-second-lanes : (w : ℕ) → w < 2 ^ 64 → bitAnd (w / 2 ^ 8) byte-mask ≡ word (second w)
-second-lanes w h = first-lanes (w / 2 ^ 8) (omega arith) ∙ lanes-cong refl (shifted w 16) (shifted w 32) (shifted w 48)
+pub second-parts : (w : ℕ) → bitAnd (w / 2 ^ 8) byte-mask ≡ lanes (w / 2 ^ 8 % 256) (w / 2 ^ 24 % 256) (w / 2 ^ 40 % 256) (w / 2 ^ 56 % 256)
+second-parts w = byte-parts (w / 2 ^ 8) ∙ (λ i. lanes (w / 2 ^ 8 % 256) (shr-shr w 8 16 i % 256) (shr-shr w 8 32 i % 256) (shr-shr w 8 48 i % 256))
 
 -- the number in each lane
 module _ (q : Four (2 ^ 16)) where
@@ -156,71 +158,29 @@ module _ (q : Four (2 ^ 16)) where
   lane-3 : word q / 2 ^ 48 ≡ q .d
   lane-3 = omega arith
 
--- a shift loses what lies above 64 bits
-loses : {n : ℕ} (k : ℕ) (q : Four (2 ^ 16)) → n ≡ k * 2 ^ 64 + word q → n % 2 ^ 64 ≡ word q
-loses k q e = ap (λ (n : ℕ). n % 2 ^ 64) e ∙ low k 64 (word-lt q)
+-- ---- records that hold a 0
 
--- ---- the zero mask
+-- 1 where a record of these two bytes needs a row, paired
+abbrev pub zeroBit : ℕ → ℕ → ℕ
+zeroBit x y = cond (needsRow Paired (x ∷ y ∷ [])) 1 0
 
-bit-lt : (x y : ℕ) → zeroBit x y < 2
-unfolding zeroBit
-bit-lt zero y = omega arith
-bit-lt (suc x) zero = omega arith
-bit-lt (suc x) (suc y) = omega arith
-
--- one bit for each record of first byte x and second byte y
-abbrev bits : Four 256 → Four 256 → Four 2
-bits x y =
-    four (zeroBit (x .a) (y .a)) (zeroBit (x .b) (y .b)) (zeroBit (x .c) (y .c)) (zeroBit (x .d) (y .d))
-    (bit-lt (x .a) (y .a)) (bit-lt (x .b) (y .b)) (bit-lt (x .c) (y .c)) (bit-lt (x .d) (y .d))
-
-abbrev nibble : Four 2 → ℕ
-nibble q = q .a + 2 * (q .b + 2 * (q .c + 2 * (q .d + 2 * 0)))
-
-mask-8 : (w : ℕ) → zeroMask (bytes 8 w) ≡ nibble (bits (first w) (second w))
-unfolding zeroMask
-mask-8 w = ap zeroMask (bytes-8 w)
+pub bit-lt : (b : Bool) → cond b 1 0 < 2
+bit-lt true = omega arith
+bit-lt false = omega arith
 
 -- a byte that is not 0, with 255 added, reaches the bit above its byte
 reached : (x y : ℕ) → x < 256 → y < 256 → bitAnd ((x + 255) / 2 ^ 8) ((y + 255) / 2 ^ 8) % 2 * 256 ≡ 256 * (1 - zeroBit x y)
-unfolding zeroBit
+unfolding needsRow
 reached zero y hx hy = refl
-reached (suc x) zero hx hy = ap (λ (n : ℕ). n % 2 * 256) (and-zero-r ((suc x + 255) / 2 ^ 8))
+reached (suc x) zero hx hy = rw (ne-eqb (suc x) 0 (λ e. omega arith)) (ap (λ (n : ℕ). n % 2 * 256) (and-zero-r ((suc x + 255) / 2 ^ 8)))
 reached (suc x) (suc y) hx hy =
     let p : (suc x + 255) / 2 ^ 8 ≡ 1 = omega arith in
     let q : (suc y + 255) / 2 ^ 8 ≡ 1 = omega arith in
-    (λ i. bitAnd (p i) (q i) % 2 * 256)
+    rw (ne-eqb (suc x) 0 (λ e. omega arith), ne-eqb (suc y) 0 (λ e. omega arith)) (λ i. bitAnd (p i) (q i) % 2 * 256)
 
 carried : (x y : ℕ) → x < 256 → y < 256 → bitAnd (bitAnd (x + 255) (y + 255)) 256 ≡ 256 * (1 - zeroBit x y)
 carried x y hx hy =
     and-high (bitAnd (x + 255) (y + 255)) 1 8 ∙ ap (λ (n : ℕ). n % 2 * 256) (and-shr (x + 255) (y + 255) 8) ∙ reached x y hx hy
-
--- the code's steps in zero_nibble: z of e and o, and the four bits of z put side by side
-abbrev zeros : ℕ → ℕ → ℕ
-zeros e o = (carry-mask - bitAnd (bitAnd e o) carry-mask) / 2 ^ 8
-
-abbrev gather : ℕ → ℕ
-gather z = bitAnd (z + z / 2 ^ 15 + z / 2 ^ 30 + z / 2 ^ 45) 15
-
-module _ (q : Four 2) where
-  nibble-lt : nibble q < 2 ^ 4
-  nibble-lt = omega arith
-
-  left : (carry-mask - lanes (256 * (1 - q .a)) (256 * (1 - q .b)) (256 * (1 - q .c)) (256 * (1 - q .d))) / 2 ^ 8 ≡ word q
-  left =
-      let p : carry-mask - lanes (256 * (1 - q .a)) (256 * (1 - q .b)) (256 * (1 - q .c)) (256 * (1 - q .d)) ≡ 256 * word q = omega arith in
-      ap (λ (n : ℕ). n / 2 ^ 8) p ∙ omega arith
-
-  gathered : gather (word q) ≡ nibble q
-  gathered =
-      let high : ℕ = 2 ^ 12 * q .b + (2 ^ 28 + 2 ^ 13) * q .c + (2 ^ 44 + 2 ^ 29 + 2 ^ 14) * q .d in
-      let p : word q / 2 ^ 15 ≡ 2 * q .b + 2 ^ 17 * q .c + 2 ^ 33 * q .d = omega arith in
-      let r : word q / 2 ^ 30 ≡ 4 * q .c + 2 ^ 18 * q .d = omega arith in
-      let s : word q / 2 ^ 45 ≡ 8 * q .d = omega arith in
-      let sum : word q + (2 * q .b + 2 ^ 17 * q .c + 2 ^ 33 * q .d) + (4 * q .c + 2 ^ 18 * q .d) + 8 * q .d
-      ≡ high * 2 ^ 4 + nibble q = omega arith in
-      and-mask (word q + word q / 2 ^ 15 + word q / 2 ^ 30 + word q / 2 ^ 45) 4
-      ∙ (λ i. (word q + p i + r i + s i) % 2 ^ 4) ∙ ap (λ (n : ℕ). n % 2 ^ 4) sum ∙ low high 4 nibble-lt
 
 abbrev raised : Four 256 → Four (2 ^ 16)
 raised x = four (x .a + 255) (x .b + 255) (x .c + 255) (x .d + 255) (omega arith) (omega arith) (omega arith) (omega arith)
@@ -240,30 +200,26 @@ carry-lanes x y =
     (carried (x .c) (y .c) (x .c-lt) (y .c-lt)) (carried (x .d) (y .d) (x .d-lt) (y .d-lt))
 
 -- those of a word
-pub carries-8 : (w : ℕ) → w < 2 ^ 64
+pub carries-8 : (w : ℕ)
     → bitAnd (bitAnd (bitAnd w byte-mask + byte-mask) (bitAnd (w / 2 ^ 8) byte-mask + byte-mask)) carry-mask
     ≡ lanes (256 * (1 - zeroBit (w % 256) (w / 2 ^ 8 % 256))) (256 * (1 - zeroBit (w / 2 ^ 16 % 256) (w / 2 ^ 24 % 256)))
     (256 * (1 - zeroBit (w / 2 ^ 32 % 256) (w / 2 ^ 40 % 256))) (256 * (1 - zeroBit (w / 2 ^ 48 % 256) (w / 2 ^ 56 % 256)))
-carries-8 w h =
-    (λ i. bitAnd (bitAnd (first-lanes w h i + byte-mask) (second-lanes w h i + byte-mask)) carry-mask) ∙ carry-lanes (first w) (second w)
+carries-8 w = (λ i. bitAnd (bitAnd (byte-parts w i + byte-mask) (second-parts w i + byte-mask)) carry-mask) ∙ carry-lanes (first w) (second w)
 
-zero-lanes : (x y : Four 256) → zeros (word x + byte-mask) (word y + byte-mask) ≡ word (bits x y)
-zero-lanes x y = ap (λ (n : ℕ). (carry-mask - n) / 2 ^ 8) (carry-lanes x y) ∙ left (bits x y)
+-- the code's steps in zero_nibble: four bits, a lane apart, put side by side
+abbrev pub gather : ℕ → ℕ
+gather z = bitAnd (z + z / 2 ^ 15 + z / 2 ^ 30 + z / 2 ^ 45) 15
 
--- the mask of a word's four records
-pub mask-word : (w : ℕ) → w < 2 ^ 64
-    → gather (zeros (bitAnd w byte-mask + byte-mask) (bitAnd (w / 2 ^ 8) byte-mask + byte-mask)) ≡ zeroMask (bytes 8 w)
-mask-word w h =
-    (λ i. gather (zeros (first-lanes w h i + byte-mask) (second-lanes w h i + byte-mask)))
-    ∙ ap gather (zero-lanes (first w) (second w)) ∙ gathered (bits (first w) (second w)) ∙ sym (mask-8 w)
-
-pub mask-small : (w : ℕ) → zeroMask (bytes 8 w) < 16
-mask-small w = rw mask-8 (nibble-lt (bits (first w) (second w)))
-
--- the mask of a block
-pub mask-append : (lo hi : ℕ) → zeroMask (bytes 8 lo) + 16 * zeroMask (bytes 8 hi) ≡ zeroMask (bytes 8 lo ++ bytes 8 hi)
-unfolding zeroMask bytes
-mask-append lo hi = omega arith
+pub gathered : (a b c d : ℕ) → a < 2 → b < 2 → c < 2 → d < 2 → gather (lanes a b c d) ≡ a + 2 * (b + 2 * (c + 2 * (d + 2 * 0)))
+gathered a b c d ha hb hc hd =
+    let w : ℕ = lanes a b c d in
+    let high : ℕ = 2 ^ 12 * b + (2 ^ 28 + 2 ^ 13) * c + (2 ^ 44 + 2 ^ 29 + 2 ^ 14) * d in
+    let p : w / 2 ^ 15 ≡ 2 * b + 2 ^ 17 * c + 2 ^ 33 * d = omega arith in
+    let r : w / 2 ^ 30 ≡ 4 * c + 2 ^ 18 * d = omega arith in
+    let s : w / 2 ^ 45 ≡ 8 * d = omega arith in
+    let sum : w + (2 * b + 2 ^ 17 * c + 2 ^ 33 * d) + (4 * c + 2 ^ 18 * d) + 8 * d ≡ high * 2 ^ 4 + (a + 2 * (b + 2 * (c + 2 * (d + 2 * 0)))) = omega arith in
+    and-mask (w + w / 2 ^ 15 + w / 2 ^ 30 + w / 2 ^ 45) 4
+    ∙ (λ i. (w + p i + r i + s i) % 2 ^ 4) ∙ ap (λ (n : ℕ). n % 2 ^ 4) sum ∙ low high 4 (omega arith)
 
 -- ---- the lowest record of a mask
 
@@ -281,14 +237,36 @@ trailing-lowest (suc n) m = rw (trailing-lowest n (m / 2)) (lowest-step (m % 2) 
 
 -- ---- running sums
 
--- of four bytes: each × 8, the sums of two, the sums of all up to each
+-- the code's steps: each lane takes the lane below, then the two lanes below that
+abbrev pub take-1 : ℕ → ℕ
+take-1 e = e + (e * 2 ^ 16) % 2 ^ 64
+
+abbrev pub take-2 : ℕ → ℕ
+take-2 s = s + (s * 2 ^ 32) % 2 ^ 64
+
+module _ (a b c d : ℕ) (ha : a < 2 ^ 11) (hb : b < 2 ^ 11) (hc : c < 2 ^ 11) (hd : d < 2 ^ 11) where
+  twos : take-1 (lanes a b c d) ≡ lanes a (a + b) (b + c) (c + d)
+  twos =
+      let p : lanes a b c d * 2 ^ 16 ≡ d * 2 ^ 64 + lanes 0 a b c = omega arith in
+      ap (λ (n : ℕ). lanes a b c d + n) (ap (λ (n : ℕ). n % 2 ^ 64) p ∙ low d 64 (omega arith)) ∙ omega arith
+
+  fours : take-2 (lanes a (a + b) (b + c) (c + d)) ≡ lanes a (a + b) (a + b + c) (a + b + c + d)
+  fours =
+      let q : ℕ = (c + d) * 2 ^ 16 + (b + c) in
+      let p : lanes a (a + b) (b + c) (c + d) * 2 ^ 32 ≡ q * 2 ^ 64 + lanes 0 0 a (a + b) = omega arith in
+      ap (λ (n : ℕ). lanes a (a + b) (b + c) (c + d) + n) (ap (λ (n : ℕ). n % 2 ^ 64) p ∙ low q 64 (omega arith)) ∙ omega arith
+
+  both-taken : take-2 (take-1 (lanes a b c d)) ≡ lanes a (a + b) (a + b + c) (a + b + c + d)
+  both-taken = ap take-2 twos ∙ fours
+
+  -- both steps fit, and the highest lane has the sum of all
+  pub summed : (take-1 (lanes a b c d) < 2 ^ 64) × (take-2 (take-1 (lanes a b c d)) < 2 ^ 64) × (take-2 (take-1 (lanes a b c d)) / 2 ^ 48 ≡ a + b + c + d)
+  summed = (rw twos (omega arith), rw both-taken (omega arith), ap (λ (n : ℕ). n / 2 ^ 48) both-taken ∙ omega arith)
+
+-- four bytes, each × 8, and the sums of all up to each
 module _ (q : Four 256) where
   abbrev eights : Four (2 ^ 16)
   eights = four (8 * q .a) (8 * q .b) (8 * q .c) (8 * q .d) (omega arith) (omega arith) (omega arith) (omega arith)
-
-  abbrev pairs : Four (2 ^ 16)
-  pairs =
-      four (8 * q .a) (8 * q .a + 8 * q .b) (8 * q .b + 8 * q .c) (8 * q .c + 8 * q .d) (omega arith) (omega arith) (omega arith) (omega arith)
 
   abbrev sums : Four (2 ^ 16)
   sums =
@@ -299,47 +277,29 @@ sums-8 : (w : ℕ) → lanesOf (running 0 (firsts (bytes 8 w))) ≡ word (sums (
 unfolding lanesOf running
 sums-8 w = ap (λ (l : List ℕ). lanesOf (running 0 l)) (firsts-8 w) ∙ omega arith
 
--- the code's steps in lane_sums: × 8, then each lane takes the lane below, then the two lanes below that
+-- the code's first step in lane_sums
 abbrev times-8 : ℕ → ℕ
 times-8 m = (m * 2 ^ 3) % 2 ^ 64
 
-abbrev take-1 : ℕ → ℕ
-take-1 e = e + (e * 2 ^ 16) % 2 ^ 64
+module _ (w : ℕ) where
+  eights-word : times-8 (bitAnd w byte-mask) ≡ word (eights (first w))
+  eights-word = ap times-8 (byte-parts w) ∙ ap (λ (n : ℕ). n % 2 ^ 64) (omega arith) ∙ low 0 64 (word-lt (eights (first w)))
 
-abbrev take-2 : ℕ → ℕ
-take-2 s = s + (s * 2 ^ 32) % 2 ^ 64
-
-module _ (q : Four 256) where
-  eights-are : times-8 (word q) ≡ word (eights q)
-  eights-are = loses 0 (eights q) (omega arith)
-
-  pairs-are : take-1 (word (eights q)) ≡ word (pairs q)
-  pairs-are =
-      let r : Four (2 ^ 16) = four 0 (8 * q .a) (8 * q .b) (8 * q .c) (omega arith) (omega arith) (omega arith) (omega arith) in
-      ap (λ (n : ℕ). word (eights q) + n) (loses (8 * q .d) r (omega arith)) ∙ omega arith
-
-  sums-are : take-2 (word (pairs q)) ≡ word (sums q)
-  sums-are =
-      let r : Four (2 ^ 16) = four 0 0 (8 * q .a) (8 * q .a + 8 * q .b) (omega arith) (omega arith) (omega arith) (omega arith) in
-      ap (λ (n : ℕ). word (pairs q) + n) (loses ((8 * q .c + 8 * q .d) * 2 ^ 16 + (8 * q .b + 8 * q .c)) r (omega arith)) ∙ omega arith
-
-module _ (w : ℕ) (h : w < 2 ^ 64) where
-  pairs-word : take-1 (times-8 (bitAnd w byte-mask)) ≡ word (pairs (first w))
-  pairs-word =
-      ap (λ (n : ℕ). take-1 (times-8 n)) (first-lanes w h) ∙ ap take-1 (eights-are (first w)) ∙ pairs-are (first w)
-
-  sums-word : take-2 (take-1 (times-8 (bitAnd w byte-mask))) ≡ word (sums (first w))
-  sums-word = ap take-2 pairs-word ∙ sums-are (first w)
+  fit : (n : ℕ) → 8 * (n % 256) < 2 ^ 11
+  fit n = omega arith
 
   pub take-1-fits : take-1 (times-8 (bitAnd w byte-mask)) < 2 ^ 64
-  take-1-fits = rw pairs-word (word-lt (pairs (first w)))
+  take-1-fits = rw eights-word (summed _ _ _ _ (fit w) (fit (w / 2 ^ 16)) (fit (w / 2 ^ 32)) (fit (w / 2 ^ 48)) .0)
 
   pub take-2-fits : take-2 (take-1 (times-8 (bitAnd w byte-mask))) < 2 ^ 64
-  take-2-fits = rw sums-word (word-lt (sums (first w)))
+  take-2-fits = rw eights-word (summed _ _ _ _ (fit w) (fit (w / 2 ^ 16)) (fit (w / 2 ^ 32)) (fit (w / 2 ^ 48)) .1)
 
   -- the running sums of a word's first bytes
   pub running-word : take-2 (take-1 (times-8 (bitAnd w byte-mask))) ≡ lanesOf (running 0 (firsts (bytes 8 w)))
-  running-word = sums-word ∙ sym (sums-8 w)
+  running-word =
+      ap (λ (n : ℕ). take-2 (take-1 n)) eights-word
+      ∙ both-taken _ _ _ _ (fit w) (fit (w / 2 ^ 16)) (fit (w / 2 ^ 32)) (fit (w / 2 ^ 48))
+      ∙ omega arith ∙ sym (sums-8 w)
 
 -- what first_sums makes of the lanes of two words
 abbrev pub eight-sums : ℕ → ℕ → List ℕ

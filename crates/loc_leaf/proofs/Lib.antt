@@ -8,4 +8,6 @@ pub mod ValueLaws
 pub mod RowLaws
 pub mod RowPrefix
 pub mod Lanes
+pub mod BlockLaws
+pub mod MaskLaws
 pub mod Starred

@@ -5,7 +5,9 @@ use mathlib.Core.Bool.{cond}
 use mathlib.Core.Path.{_≡_}
 use mathlib.Core.List.{List, [], _∷_}
 use lib.Dec.{eqb}
-use Rattle.loc_leaf.specs.Bytes.{Bytes}
+use Rattle.loc_leaf.specs.declared.Kind.{Kind}
+use Rattle.loc_leaf.specs.Bytes.{Bytes, byte}
+use Rattle.loc_leaf.specs.Slot.{needsRow, inline}
 
 -- the first byte of each record
 unfoldable pub firsts : Bytes → Bytes
@@ -19,17 +21,30 @@ seconds [] = []
 seconds (x ∷ []) = []
 seconds (x ∷ y ∷ bs) = y ∷ seconds bs
 
--- 1 where a record of these two bytes holds a 0
-unfoldable pub zeroBit : ℕ → ℕ → ℕ
-zeroBit zero y = 1
-zeroBit (suc x) zero = 1
-zeroBit (suc x) (suc y) = 0
+-- the two bytes of record j's slot, counted from 0
+abbrev pub slotBytes : Bytes → ℕ → Bytes
+slotBytes bytes j = byte (2 * j) bytes ∷ byte (2 * j + 1) bytes ∷ []
 
--- bit k set where record k holds a 0
-unfoldable pub zeroMask : Bytes → ℕ
-zeroMask [] = 0
-zeroMask (x ∷ []) = 0
-zeroMask (x ∷ y ∷ bs) = zeroBit x y + 2 * zeroMask bs
+-- 1 where record j needs a row: paired, where it holds a 0
+abbrev pub rowBit : Kind → Bytes → ℕ → ℕ
+rowBit k s j = cond (needsRow k (slotBytes s j)) 1 0
+
+-- bit t set where record j + t needs a row, of n records
+unfoldable pub rowMask : Kind → Bytes → ℕ → ℕ → ℕ
+rowMask k s j zero = 0
+rowMask k s j (suc n) = rowBit k s j + 2 * rowMask k s (j + 1) n
+
+-- g j + … + g (j + n - 1)
+unfoldable pub sumFrom : (ℕ → ℕ) → ℕ → ℕ → ℕ
+sumFrom g j zero = 0
+sumFrom g j (suc n) = g j + sumFrom g (j + 1) n
+
+-- what the slots of n records from record j on say, added up
+abbrev pub inlineStrides : Kind → Bytes → ℕ → ℕ → ℕ
+inlineStrides k s j n = sumFrom (λ i. inline k (slotBytes s i) .strides) j n
+
+abbrev pub inlineSpans : Kind → Bytes → ℕ → ℕ → ℕ
+inlineSpans k s j n = sumFrom (λ i. inline k (slotBytes s i) .spans) j n
 
 -- running sums of byte × 8, on top of t
 unfoldable pub running : ℕ → Bytes → List ℕ
@@ -46,12 +61,7 @@ unfoldable pub lanesOf : List ℕ → ℕ
 lanesOf [] = 0
 lanesOf (x ∷ xs) = x + 2 ^ 16 * lanesOf xs
 
--- what the block of the bytes bs answers
-pub record PairsOf (bs st no : Bytes) (mask : ℕ) : Type 0 where
-  pub isFirsts : st ≡ firsts bs
-  pub isSeconds : no ≡ seconds bs
-  pub isMask : mask ≡ zeroMask bs
-
+-- both lists of the block of the bytes bs
 pub record SumsOf (bs : Bytes) (tx sp : List ℕ) : Type 0 where
   pub isBody : tx ≡ running 0 (firsts bs)
   pub isSpan : sp ≡ running 0 (seconds bs)

@@ -9,7 +9,7 @@ use Rattle.loc_leaf.specs.Bytes.{Bytes, number, bytes, numberAt}
 use Rattle.loc_leaf.specs.Area.{counted, pieces, fill, published}
 use Rattle.loc_leaf.specs.Slot.{needsRow, inline}
 use Rattle.loc_leaf.specs.Rows.{row, rowNumber, rowValue, rowList, rowFor, hasRow, lookup, slotValue}
-use Rattle.loc_window.specs.Block.{sumFrom}
+use Rattle.loc_leaf.specs.Block.{sumFrom}
 use Rattle.loc_total.specs.Total.{lookupFrom, valueOr, lack, valueFrom, lackFrom}
 
 abbrev slots : Bytes

@@ -19,7 +19,7 @@ use Rattle.loc_leaf.specs.Slot.{needsRow, inline}
 use Rattle.loc_leaf.specs.Rows.{rowList, rowNumber, rowValue, rowFor, hasRow, lookup, slotValue, ascending, numberIn}
 use Rattle.loc_leaf.proofs.Booleans.{is?}
 use Rattle.loc_leaf.proofs.RowLaws.{rising}
-use Rattle.loc_window.specs.Block.{slotBytes}
+use Rattle.loc_leaf.specs.Block.{slotBytes}
 use Rattle.loc_total.specs.Total.{lookupFrom}
 
 -- ---- the row that is numbered id

@@ -10,7 +10,7 @@ use Rattle.loc_leaf.specs.declared.Kind.the-variants.{Paired, Single}
 use Rattle.loc_leaf.specs.declared.Value.{Value}
 use Rattle.loc_leaf.specs.Bytes.{Bytes, byte}
 use Rattle.loc_leaf.specs.Slot.{inline}
-use Rattle.loc_window.specs.Block.{slotBytes, rowBit}
+use Rattle.loc_leaf.specs.Block.{slotBytes, rowBit}
 use Rattle.loc_total.specs.declared.Total.{Total}
 use Rattle.loc_total.specs.Slots.{SlotTotal}
 use Rattle.loc_total.proofs.SumLaws.{sum-next, bits-low}

@@ -7,9 +7,9 @@ use native.Mathlib.Omega.{arith}
 use Rattle.loc_leaf.specs.declared.Kind.{Kind}
 use Rattle.loc_leaf.specs.Bytes.{Bytes}
 use Rattle.loc_leaf.specs.Slot.{needsRow}
-use Rattle.loc_window.specs.Block.{slotBytes, rowBit, sumFrom}
+use Rattle.loc_leaf.specs.Block.{slotBytes, rowBit, sumFrom}
 use Rattle.loc_window.proofs.BlockLaws.{sum-same}
-use Rattle.loc_window.proofs.MaskLaws.{bit-lt}
+use Rattle.loc_leaf.proofs.Lanes.{bit-lt}
 use Rattle.loc_window.proofs.BlocksLaws.{sum-split, sum-at}
 
 pub sum-zero : (g : ℕ → ℕ) (j n : ℕ) → ((i : ℕ) → g i ≡ 0) → sumFrom g j n ≡ 0

@@ -19,7 +19,7 @@ use Rattle.loc_leaf.specs.Rows.{rowList, rowValue, numberIn, valueIn}
 use Rattle.loc_leaf.proofs.RowLaws.{rising, rows-count}
 use Rattle.loc_calls.specs.Areas.{Areas, areas}
 use Rattle.loc_calls.specs.Reading.{sumAfter, allAfter, lookupAt, has, valueAt, stridesAfter, spansAfter}
-use Rattle.loc_window.specs.Block.{slotBytes, rowBit, sumFrom}
+use Rattle.loc_leaf.specs.Block.{slotBytes, rowBit, sumFrom}
 use Rattle.loc_window.specs.Window.{windowAreas, complete, Rising, Copied}
 use Rattle.loc_window.proofs.BlockLaws.{sum-same}
 use Rattle.loc_window.proofs.SumLaws.{lookup-is}

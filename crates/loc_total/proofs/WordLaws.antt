@@ -12,12 +12,12 @@ use lib.Pow.{low, high}
 use Rattle.loc_leaf.specs.declared.Kind.{Kind}
 use Rattle.loc_leaf.specs.declared.Kind.the-variants.{Paired, Single}
 use Rattle.loc_leaf.specs.Bytes.{Bytes, bytes}
-use Rattle.loc_leaf.specs.Block.{firsts, seconds}
+use Rattle.loc_leaf.specs.Block.{slotBytes, rowBit, sumFrom, inlineStrides, inlineSpans}
 use Rattle.loc_leaf.specs.Slot.{needsRow, inline}
-use Rattle.loc_leaf.proofs.Lanes.{byte-mask, carry-mask, bytes-8}
-use Rattle.loc_window.specs.Block.{total, slotBytes, rowBit, sumFrom, inlineStrides, inlineSpans}
-use Rattle.loc_window.proofs.BlockLaws.{byte-parts, second-parts, word-mask, word-parts, odd-parts, low-bytes, two-bytes, records-are, part-sum}
-use Rattle.loc_window.proofs.MaskLaws.{bit-lt, Full, word-carries, Even, odd-is}
+use Rattle.loc_leaf.proofs.Lanes.{byte-mask, carry-mask, bytes-8, byte-parts, second-parts, bit-lt}
+use Rattle.loc_leaf.proofs.BlockLaws.{word-mask, word-parts, odd-parts, low-bytes, two-bytes, records-are}
+use Rattle.loc_leaf.proofs.MaskLaws.{Full, word-carries, Even, odd-is}
+use Rattle.loc_window.proofs.BlockLaws.{part-sum}
 use Rattle.loc_total.specs.declared.Total.{Total}
 use Rattle.loc_total.specs.Slots.{needing, SlotTotal, Four, Two, PairWords, SingleWords}
 use Rattle.loc_total.proofs.SumLaws.{sum-zero, sum-more, bits-low}
@@ -61,7 +61,7 @@ two-room u v x s p h = omega (arith, p .is, p .low .0, p .low .1)
 
 -- the sum of the lanes, as strides_total gives it
 abbrev pub LaneSum : ℕ → ℕ → Type 0
-LaneSum x r = r ≡ total (firsts (bytes 8 x ++ bytes 8 0)) + 256 * total (seconds (bytes 8 x ++ bytes 8 0))
+LaneSum x r = r ≡ inlineStrides Single (bytes 8 x ++ bytes 8 0) 0 8
 
 four-total : (u x s r : ℕ) → Four u x s → u < 2 ^ 16 → LaneSum x r → r ≡ s
 four-total u x s r p h e =

@@ -5,7 +5,7 @@ use mathlib.Core.Path.{_≡_}
 use Rattle.loc_leaf.specs.declared.Kind.{Kind}
 use Rattle.loc_leaf.specs.declared.Kind.the-variants.{Paired, Single}
 use Rattle.loc_leaf.specs.Bytes.{Bytes}
-use Rattle.loc_window.specs.Block.{rowBit, sumFrom, inlineStrides, inlineSpans}
+use Rattle.loc_leaf.specs.Block.{rowBit, sumFrom, inlineStrides, inlineSpans}
 use Rattle.loc_total.specs.declared.Total.{Total}
 
 -- how many of the first n records need a row

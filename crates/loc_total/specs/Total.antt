@@ -13,7 +13,7 @@ use Rattle.loc_leaf.specs.Slot.{inline}
 use Rattle.loc_leaf.specs.Rows.{rowList, slotValue}
 use Rattle.loc_calls.specs.Areas.{Areas}
 use Rattle.loc_calls.specs.Reading.{complete, stridesAfter, spansAfter}
-use Rattle.loc_window.specs.Block.{slotBytes, sumFrom}
+use Rattle.loc_leaf.specs.Block.{slotBytes, sumFrom}
 use Rattle.loc_window.specs.Window.{Rising}
 use Rattle.loc_total.specs.declared.Total.{Total}
 

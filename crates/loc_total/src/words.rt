@@ -7,12 +7,12 @@ ghost use Rattle.loc_leaf.specs.declared.Kind.the-variants.{Paired, Single};
 ghost use Rattle.loc_total.specs.Slots.{Two, SlotTotal};
 use crate::Total;
 use loc_leaf::Kind;
-use loc_window::block::BYTES;
-use loc_window::block::WORDS;
-use loc_window::block::even_full;
-use loc_window::block::full;
-use loc_window::block::strides_total;
-use loc_window::block::word_at;
+use loc_leaf::loc_simd::BYTES;
+use loc_leaf::loc_simd::WORDS;
+use loc_leaf::loc_simd::even_full;
+use loc_leaf::loc_simd::full;
+use loc_leaf::loc_simd::strides_total;
+use loc_window::rows::word_at;
 
 // Paired: the bytes of 256 words fit lanes of sixteen bits.
 fn pair_words(bytes: &[u8], n: usize) -> Total

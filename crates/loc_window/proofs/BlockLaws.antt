@@ -1,22 +1,20 @@
--- Eight bytes as a word, the totals of a block, and its bytes in the copy.
--- A mask takes a word apart: with BYTES four bytes are left of it, with WORDS two numbers of sixteen bits.
+-- Eight bytes of a slice as a word, and the bytes of a block in the copy.
+-- What a block's words say of its records, they say of the copy's.
 use Prim.Native.Nat.{ℕ, zero, suc, _+_, _*_, _/_, _%_, _^_, _<_, _≤_}
-use mathlib.Core.Path.{_≡_, refl, sym, ap, _∙_, subst}
+use mathlib.Core.Path.{_≡_, refl, sym, ap, _∙_}
+use mathlib.Core.Bool.{cond}
 use mathlib.Core.List.{List, [], _∷_, _++_}
 use native.Mathlib.Numerals.{add-one}
-use native.Mathlib.Nat.{add-zero, zero-add, mod-lt}
+use native.Mathlib.Nat.{add-zero, zero-add}
 use native.Mathlib.Omega.{arith}
-use lib.Pow.{pow-pos, shr-shr, low, high, split}
+use lib.Pow.{shr-shr, low, high}
 use lib.ListN.{length, getD, take, drop}
-use lib.Bits.{bitAnd, and-block, and-mask}
 use lib.Seq.{drop-cons, getD-take, getD-drop, take-add, drop-drop}
 use Rattle.loc_leaf.specs.declared.Kind.{Kind}
-use Rattle.loc_leaf.specs.declared.Kind.the-variants.{Paired, Single}
 use Rattle.loc_leaf.specs.Bytes.{Bytes, byte, bytes}
-use Rattle.loc_leaf.specs.Block.{firsts, seconds}
-use Rattle.loc_leaf.specs.Slot.{inline}
-use Rattle.loc_leaf.proofs.Lanes.{byte-mask, bytes-8, shifted-firsts, lanes}
-use Rattle.loc_window.specs.Block.{total, totalStrides, totalSpans, slotBytes, sumFrom, inlineStrides, inlineSpans}
+use Rattle.loc_leaf.specs.Slot.{needsRow, inline}
+use Rattle.loc_leaf.specs.Block.{slotBytes, rowBit, rowMask, sumFrom, inlineStrides, inlineSpans}
+use Rattle.loc_leaf.proofs.Lanes.{bytes-8}
 
 -- ---- eight bytes
 
@@ -85,144 +83,6 @@ word-bytes s i r h b e =
     (b i) (b (i + 1)) (b (i + 2)) (b (i + 3)) (b (i + 4)) (b (i + 5)) (b (i + 6)) (b (i + 7))
     ∙ sym (eight-of s i h)
 
--- ---- a word under a mask
-
--- the code's WORDS
-abbrev pub word-mask : ℕ
-word-mask = 0x0000_ffff_0000_ffff
-
--- a mask takes the parts above and below a bit by themselves
-and-parts : (w k m n : ℕ) → n < 2 ^ k → bitAnd w (m * 2 ^ k + n) ≡ bitAnd (w / 2 ^ k) m * 2 ^ k + bitAnd (w % 2 ^ k) n
-and-parts w k m n h = ap (λ (v : ℕ). bitAnd v (m * 2 ^ k + n)) (sym (split w k)) ∙ and-block k (w / 2 ^ k) m (w % 2 ^ k) n (mod-lt w (pow-pos k)) h
-
--- two lanes of thirty-two bits, and the sixteen low bits of each
-pub word-parts : (w : ℕ) → bitAnd w word-mask ≡ (w / 2 ^ 32 % 2 ^ 16) * 2 ^ 32 + w % 2 ^ 16
-word-parts w =
-    let e : w % 2 ^ 32 % 2 ^ 16 ≡ w % 2 ^ 16 = omega arith in
-    and-parts w 32 0xffff 0xffff (omega arith) ∙ (λ i. and-mask (w / 2 ^ 32) 16 i * 2 ^ 32 + (and-mask (w % 2 ^ 32) 16 ∙ e) i)
-
--- the same of the records between them
-pub odd-parts : (w : ℕ) → bitAnd (w / 2 ^ 16) word-mask ≡ w / 2 ^ 48 % 2 ^ 16 * 2 ^ 32 + w / 2 ^ 16 % 2 ^ 16
-odd-parts w = word-parts (w / 2 ^ 16) ∙ ap (λ (n : ℕ). n % 2 ^ 16 * 2 ^ 32 + w / 2 ^ 16 % 2 ^ 16) (shr-shr w 16 32)
-
-half-bytes : (w : ℕ) → bitAnd w 0xff_00ff ≡ (w / 2 ^ 16 % 2 ^ 8) * 2 ^ 16 + w % 2 ^ 8
-half-bytes w =
-    let e : w % 2 ^ 16 % 2 ^ 8 ≡ w % 2 ^ 8 = omega arith in
-    and-parts w 16 0xff 0xff (omega arith) ∙ (λ i. and-mask (w / 2 ^ 16) 8 i * 2 ^ 16 + (and-mask (w % 2 ^ 16) 8 ∙ e) i)
-
--- sixteen bits of a word as two bytes
-pub low-bytes : (w : ℕ) → w % 2 ^ 16 ≡ w % 256 + 256 * (w / 2 ^ 8 % 256)
-low-bytes w = omega arith
-
-pub two-bytes : (w j : ℕ) → w / 2 ^ j % 2 ^ 16 ≡ w / 2 ^ j % 256 + 256 * (w / 2 ^ (j + 8) % 256)
-two-bytes w j =
-    low-bytes (w / 2 ^ j) ∙ ap (λ (n : ℕ). w / 2 ^ j % 256 + 256 * (n % 256)) (shr-shr w j 8)
-
--- ---- totals
-
-pub byte-parts : (w : ℕ) → bitAnd w byte-mask ≡ lanes (w % 256) (w / 2 ^ 16 % 256) (w / 2 ^ 32 % 256) (w / 2 ^ 48 % 256)
-byte-parts w =
-    let e : w % 2 ^ 32 / 2 ^ 16 % 2 ^ 8 ≡ w / 2 ^ 16 % 2 ^ 8 = omega arith in
-    let f : w % 2 ^ 32 % 2 ^ 8 ≡ w % 2 ^ 8 = omega arith in
-    and-parts w 32 0xff_00ff 0xff_00ff (omega arith)
-    ∙ (λ i. half-bytes (w / 2 ^ 32) i * 2 ^ 32 + half-bytes (w % 2 ^ 32) i)
-    ∙ (λ i. (shr-shr w 32 16 i % 2 ^ 8 * 2 ^ 16 + w / 2 ^ 32 % 2 ^ 8) * 2 ^ 32 + (e i * 2 ^ 16 + f i)) ∙ omega arith
-
--- the second bytes
-pub second-parts : (w : ℕ) → bitAnd (w / 2 ^ 8) byte-mask ≡ lanes (w / 2 ^ 8 % 256) (w / 2 ^ 24 % 256) (w / 2 ^ 40 % 256) (w / 2 ^ 56 % 256)
-second-parts w = byte-parts (w / 2 ^ 8) ∙ (λ i. lanes (w / 2 ^ 8 % 256) (shr-shr w 8 16 i % 256) (shr-shr w 8 32 i % 256) (shr-shr w 8 48 i % 256))
-
--- the code's steps in first_total: each lane takes the lane below, then the two lanes below that
-abbrev take-1 : ℕ → ℕ
-take-1 e = e + (e * 2 ^ 16) % 2 ^ 64
-
-abbrev take-2 : ℕ → ℕ
-take-2 s = s + (s * 2 ^ 32) % 2 ^ 64
-
-module _ (a b c d : ℕ) (ha : a < 2 ^ 9) (hb : b < 2 ^ 9) (hc : c < 2 ^ 9) (hd : d < 2 ^ 9) where
-  twos : take-1 (lanes a b c d) ≡ lanes a (a + b) (b + c) (c + d)
-  twos =
-      let p : lanes a b c d * 2 ^ 16 ≡ d * 2 ^ 64 + lanes 0 a b c = omega arith in
-      ap (λ (n : ℕ). lanes a b c d + n) (ap (λ (n : ℕ). n % 2 ^ 64) p ∙ low d 64 (omega arith)) ∙ omega arith
-
-  fours : take-2 (lanes a (a + b) (b + c) (c + d)) ≡ lanes a (a + b) (a + b + c) (a + b + c + d)
-  fours =
-      let q : ℕ = (c + d) * 2 ^ 16 + (b + c) in
-      let p : lanes a (a + b) (b + c) (c + d) * 2 ^ 32 ≡ q * 2 ^ 64 + lanes 0 0 a (a + b) = omega arith in
-      ap (λ (n : ℕ). lanes a (a + b) (b + c) (c + d) + n) (ap (λ (n : ℕ). n % 2 ^ 64) p ∙ low q 64 (omega arith)) ∙ omega arith
-
-  both : take-2 (take-1 (lanes a b c d)) ≡ lanes a (a + b) (a + b + c) (a + b + c + d)
-  both = ap take-2 twos ∙ fours
-
-  -- both steps fit, and the highest lane has the sum of all
-  summed : (take-1 (lanes a b c d) < 2 ^ 64) × (take-2 (take-1 (lanes a b c d)) < 2 ^ 64) × (take-2 (take-1 (lanes a b c d)) / 2 ^ 48 ≡ a + b + c + d)
-  summed = (rw twos (omega arith), rw both (omega arith), ap (λ (n : ℕ). n / 2 ^ 48) both ∙ omega arith)
-
-module _ (lo hi : ℕ) where
-  two-lt : (m n : ℕ) → m % 256 + n % 256 < 2 ^ 9
-  two-lt m n = omega arith
-
-  -- the code's e in first_total
-  abbrev bytes-sum : ℕ
-  bytes-sum = bitAnd lo byte-mask + bitAnd hi byte-mask
-
-  bytes-are : bytes-sum
-      ≡ lanes (lo % 256 + hi % 256) (lo / 2 ^ 16 % 256 + hi / 2 ^ 16 % 256) (lo / 2 ^ 32 % 256 + hi / 2 ^ 32 % 256) (lo / 2 ^ 48 % 256 + hi / 2 ^ 48 % 256)
-  bytes-are = (λ i. byte-parts lo i + byte-parts hi i) ∙ omega arith
-
-  firsts-are : total (firsts (bytes 8 lo ++ bytes 8 hi))
-      ≡ lo % 256 + hi % 256 + (lo / 2 ^ 16 % 256 + hi / 2 ^ 16 % 256) + (lo / 2 ^ 32 % 256 + hi / 2 ^ 32 % 256) + (lo / 2 ^ 48 % 256 + hi / 2 ^ 48 % 256)
-  unfolding total firsts
-  firsts-are = (λ i. total (firsts (bytes-8 lo i ++ bytes-8 hi i))) ∙ omega arith
-
-  seconds-are : total (seconds (bytes 8 lo ++ bytes 8 hi))
-      ≡ lo / 2 ^ 8 % 256 + hi / 2 ^ 8 % 256 + (lo / 2 ^ 24 % 256 + hi / 2 ^ 24 % 256) + (lo / 2 ^ 40 % 256 + hi / 2 ^ 40 % 256) + (lo / 2 ^ 56 % 256 + hi / 2 ^ 56 % 256)
-  unfolding total seconds
-  seconds-are = (λ i. total (seconds (bytes-8 lo i ++ bytes-8 hi i))) ∙ omega arith
-
-  pub total-firsts : (take-1 bytes-sum < 2 ^ 64) × (take-2 (take-1 bytes-sum) < 2 ^ 64) × (take-2 (take-1 bytes-sum) / 2 ^ 48 ≡ total (firsts (bytes 8 lo ++ bytes 8 hi)))
-  total-firsts =
-      rw (bytes-are, firsts-are)
-      (summed _ _ _ _ (two-lt lo hi) (two-lt (lo / 2 ^ 16) (hi / 2 ^ 16)) (two-lt (lo / 2 ^ 32) (hi / 2 ^ 32)) (two-lt (lo / 2 ^ 48) (hi / 2 ^ 48)))
-
-  pub firsts-small : total (firsts (bytes 8 lo ++ bytes 8 hi)) < 2048
-  firsts-small = rw firsts-are (omega arith)
-
-  pub total-seconds : (r : ℕ) → r ≡ total (firsts (bytes 8 (lo / 2 ^ 8) ++ bytes 8 (hi / 2 ^ 8))) → r ≡ total (seconds (bytes 8 lo ++ bytes 8 hi))
-  total-seconds r e = e ∙ ap total (shifted-firsts lo hi)
-
-  -- ---- the records as numbers of sixteen bits
-
-  abbrev lower : ℕ
-  lower = lo % 2 ^ 16 + lo / 2 ^ 16 % 2 ^ 16 + (hi % 2 ^ 16 + hi / 2 ^ 16 % 2 ^ 16)
-
-  abbrev upper : ℕ
-  upper = lo / 2 ^ 32 % 2 ^ 16 + lo / 2 ^ 48 % 2 ^ 16 + (hi / 2 ^ 32 % 2 ^ 16 + hi / 2 ^ 48 % 2 ^ 16)
-
-  -- the code's e in strides_total
-  abbrev words-sum : ℕ
-  words-sum = bitAnd lo word-mask + bitAnd (lo / 2 ^ 16) word-mask + bitAnd hi word-mask + bitAnd (hi / 2 ^ 16) word-mask
-
-  words-are : words-sum ≡ upper * 2 ^ 32 + lower
-  words-are = (λ i. word-parts lo i + odd-parts lo i + word-parts hi i + odd-parts hi i) ∙ omega arith
-
-  pub records-are : upper + lower ≡ total (firsts (bytes 8 lo ++ bytes 8 hi)) + 256 * total (seconds (bytes 8 lo ++ bytes 8 hi))
-  records-are =
-      (λ i.
-      two-bytes lo 32 i + two-bytes lo 48 i + (two-bytes hi 32 i + two-bytes hi 48 i)
-      + (low-bytes lo i + two-bytes lo 16 i + (low-bytes hi i + two-bytes hi 16 i)))
-      ∙ omega arith ∙ sym (λ i. firsts-are i + 256 * seconds-are i)
-
-  -- its two lanes
-  pub total-records : words-sum / 2 ^ 32 + bitAnd words-sum 0xffff_ffff ≡ total (firsts (bytes 8 lo ++ bytes 8 hi)) + 256 * total (seconds (bytes 8 lo ++ bytes 8 hi))
-  total-records =
-      let u : words-sum / 2 ^ 32 ≡ upper = ap (λ (n : ℕ). n / 2 ^ 32) words-are ∙ high upper 32 (omega arith) in
-      let l : bitAnd words-sum 0xffff_ffff ≡ lower = and-mask words-sum 32 ∙ ap (λ (n : ℕ). n % 2 ^ 32) words-are ∙ low upper 32 (omega arith) in
-      (λ i. u i + l i) ∙ records-are
-
-  pub records-small : total (firsts (bytes 8 lo ++ bytes 8 hi)) + 256 * total (seconds (bytes 8 lo ++ bytes 8 hi)) < 2 ^ 19
-  records-small = subst (λ (n : ℕ). n < 2 ^ 19) records-are (omega arith)
-
 -- ---- the block's bytes in the copy
 
 -- two functions that agree from i and from j on, for n numbers
@@ -242,16 +102,11 @@ unfolding sumFrom
 sum-same f g i j zero e = refl
 sum-same f g i j (suc n) e = (λ x. agree-here f g i j n e x + sum-same f g (i + 1) (j + 1) n (agree-next f g i j n e) x)
 
--- what its records say, as totals
-strides-slots : (kd : Kind) (lo hi : ℕ) → totalStrides kd (bytes 8 lo ++ bytes 8 hi) ≡ inlineStrides kd (bytes 8 lo ++ bytes 8 hi) 0 8
-unfolding total firsts seconds bytes sumFrom inline
-strides-slots Paired lo hi = refl
-strides-slots Single lo hi = omega arith
-
-spans-slots : (kd : Kind) (lo hi : ℕ) → totalSpans kd (bytes 8 lo ++ bytes 8 hi) ≡ inlineSpans kd (bytes 8 lo ++ bytes 8 hi) 0 8
-unfolding total seconds bytes sumFrom inline
-spans-slots Paired lo hi = refl
-spans-slots Single lo hi = refl
+mask-same : (kd : Kind) (a b : Bytes) (i j n : ℕ) → Agree (rowBit kd a) (rowBit kd b) i j n → rowMask kd a i n ≡ rowMask kd b j n
+unfolding rowMask
+mask-same kd a b i j zero e = refl
+mask-same kd a b i j (suc n) e =
+    (λ x. agree-here (rowBit kd a) (rowBit kd b) i j n e x + 2 * mask-same kd a b (i + 1) (j + 1) n (agree-next (rowBit kd a) (rowBit kd b) i j n e) x)
 
 -- n records that stand in the copy from record k on
 module _ (s : Bytes) (k n : ℕ) (part : Bytes) (e : part ≡ take (2 * n) (drop (2 * k) s)) where
@@ -280,8 +135,11 @@ module _ (s : Bytes) (k lo hi : ℕ) (el : bytes 8 lo ≡ take 8 (drop (2 * k) s
   pub slots-agree : (g : Bytes → ℕ) → Agree (λ i. g (slotBytes (bytes 8 lo ++ bytes 8 hi) i)) (λ i. g (slotBytes s i)) 0 k 8
   slots-agree = part-agree s k 8 (bytes 8 lo ++ bytes 8 hi) block-is
 
-  pub block-strides : (kd : Kind) → totalStrides kd (bytes 8 lo ++ bytes 8 hi) ≡ inlineStrides kd s k 8
-  block-strides kd = strides-slots kd lo hi ∙ sum-same _ _ 0 k 8 (slots-agree (λ l. inline kd l .strides))
+  pub block-strides : (kd : Kind) → inlineStrides kd (bytes 8 lo ++ bytes 8 hi) 0 8 ≡ inlineStrides kd s k 8
+  block-strides kd = sum-same _ _ 0 k 8 (slots-agree (λ l. inline kd l .strides))
 
-  pub block-spans : (kd : Kind) → totalSpans kd (bytes 8 lo ++ bytes 8 hi) ≡ inlineSpans kd s k 8
-  block-spans kd = spans-slots kd lo hi ∙ sum-same _ _ 0 k 8 (slots-agree (λ l. inline kd l .spans))
+  pub block-spans : (kd : Kind) → inlineSpans kd (bytes 8 lo ++ bytes 8 hi) 0 8 ≡ inlineSpans kd s k 8
+  block-spans kd = sum-same _ _ 0 k 8 (slots-agree (λ l. inline kd l .spans))
+
+  pub block-mask : (kd : Kind) → rowMask kd (bytes 8 lo ++ bytes 8 hi) 0 8 ≡ rowMask kd s k 8
+  block-mask kd = mask-same kd (bytes 8 lo ++ bytes 8 hi) s 0 k 8 (slots-agree (λ l. cond (needsRow kd l) 1 0))

@@ -15,18 +15,17 @@ use Rattle.loc_leaf.specs.declared.Kind.{Kind}
 use Rattle.loc_leaf.specs.declared.Kind.the-variants.{Paired, Single}
 use Rattle.loc_leaf.specs.declared.Value.{Value}
 use Rattle.loc_leaf.specs.Bytes.{Bytes, byte, bytes}
-use Rattle.loc_leaf.specs.Block.{lowest}
+use Rattle.loc_leaf.specs.Block.{lowest, rowMask, sumFrom, inlineStrides, inlineSpans}
 use Rattle.loc_leaf.specs.Slot.{needsRow, inline}
 use Rattle.loc_leaf.specs.Rows.{rowList, rowValue}
 use Rattle.loc_leaf.proofs.Booleans.{both-left, both-right}
+use Rattle.loc_leaf.proofs.MaskLaws.{mask-none, mask-first, mask-low, First}
 use Rattle.loc_calls.specs.Reading.{lookupAt, has}
 use Rattle.loc_window.specs.declared.Sums.{Sums}
 use Rattle.loc_window.specs.declared.Step.{Step}
 use Rattle.loc_window.specs.declared.Step.the-variants.{Next, Lack}
-use Rattle.loc_window.specs.Block.{totalStrides, totalSpans, rowMask, sumFrom, inlineStrides, inlineSpans}
 use Rattle.loc_window.specs.Window.{windowAreas, complete, Passed, Rising, After, sumsOf, plusValue, FoundRow, slotBytes, BlockReady, BlockStepped, Swapping, Unmarked, BlocksAfter, PlainBlocks, BlocksPassed}
-use Rattle.loc_window.proofs.BlockLaws.{block-strides, block-spans}
-use Rattle.loc_window.proofs.MaskLaws.{block-mask, mask-none, mask-first, mask-low, First}
+use Rattle.loc_window.proofs.BlockLaws.{block-strides, block-spans, block-mask}
 use Rattle.loc_window.proofs.SumLaws.{all-more, passed-more, after-at, step-inline, step-row, lacks-row}
 
 -- a sum in two parts
@@ -88,10 +87,10 @@ module _ (k : Kind) (s : Bytes) (b lo hi : ℕ) (el : bytes 8 lo ≡ take 8 (dro
   at-high : bytes 8 hi ≡ take 8 (drop (2 * (8 * b) + 8) s)
   at-high = let e : 16 * b + 8 ≡ 2 * (8 * b) + 8 = omega arith in eh ∙ ap (λ (n : ℕ). take 8 (drop n s)) e
 
-  words-strides : totalStrides k (bytes 8 lo ++ bytes 8 hi) ≡ inlineStrides k s (8 * b) 8
+  words-strides : inlineStrides k (bytes 8 lo ++ bytes 8 hi) 0 8 ≡ inlineStrides k s (8 * b) 8
   words-strides = block-strides s (8 * b) lo hi at-low at-high k
 
-  words-spans : totalSpans k (bytes 8 lo ++ bytes 8 hi) ≡ inlineSpans k s (8 * b) 8
+  words-spans : inlineSpans k (bytes 8 lo ++ bytes 8 hi) 0 8 ≡ inlineSpans k s (8 * b) 8
   words-spans = block-spans s (8 * b) lo hi at-low at-high k
 
   words-mask : rowMask k (bytes 8 lo ++ bytes 8 hi) 0 8 ≡ rowMask k s (8 * b) 8
@@ -120,7 +119,7 @@ module _ (k : Kind) (s : Bytes) (mark : List ℕ) (stamp full : ℕ) (a : Sums) 
   -- one block more
   pub plain-next : (x y b lo hi dx dy y′ : ℕ) → bytes 8 lo ≡ take 8 (drop (16 * b) s) → bytes 8 hi ≡ take 8 (drop (16 * b + 8) s)
       → PlainBlocks k s mark stamp full a (sumsOf x y (a .row) b) → b < full → (getD mark b 0 ≡ stamp → ⊥) → rowMask k (bytes 8 lo ++ bytes 8 hi) 0 8 ≡ 0
-      → dx ≡ totalStrides k (bytes 8 lo ++ bytes 8 hi) → dy ≡ totalSpans k (bytes 8 lo ++ bytes 8 hi) → dx < 2 ^ 19 → dy < 2 ^ 19 → y′ ≡ y + dy
+      → dx ≡ inlineStrides k (bytes 8 lo ++ bytes 8 hi) 0 8 → dy ≡ inlineSpans k (bytes 8 lo ++ bytes 8 hi) 0 8 → dx < 2 ^ 19 → dy < 2 ^ 19 → y′ ≡ y + dy
       → PlainBlocks k s mark stamp full a (sumsOf (x + dx) y′ (a .row) (b + 1))
   plain-next x y b lo hi dx dy y′ el eh w h m z ex ey hx hy e′ =
       record {
@@ -245,7 +244,7 @@ single-spans v r e = ap (λ (u : Value). u .spans) e
 
 module _ (k : Kind) (f : ℕ) (s rows : Bytes) where
   pub swap-begin : (a : Sums) (b n lo hi dx dy y left : ℕ) → bytes 8 lo ≡ take 8 (drop (16 * b) s) → bytes 8 hi ≡ take 8 (drop (16 * b + 8) s) → After k f s rows (8 * b) a
-      → dx ≡ totalStrides k (bytes 8 lo ++ bytes 8 hi) → dy ≡ totalSpans k (bytes 8 lo ++ bytes 8 hi) → dx < 2 ^ 19 → dy < 2 ^ 19 → y ≡ a .spans + dy
+      → dx ≡ inlineStrides k (bytes 8 lo ++ bytes 8 hi) 0 8 → dy ≡ inlineSpans k (bytes 8 lo ++ bytes 8 hi) 0 8 → dx < 2 ^ 19 → dy < 2 ^ 19 → y ≡ a .spans + dy
       → left ≡ rowMask k (bytes 8 lo ++ bytes 8 hi) 0 8 → n ≡ 8 → Swapping k f s rows (8 * b) n (a .strides + dx) y (a .row) left
   swap-begin a b n lo hi dx dy y left el eh w ex ey hx hy e′ m en =
       let p : dx ≡ inlineStrides k s (8 * b) n = ex ∙ words-strides k s b lo hi el eh ∙ ap (λ (t : ℕ). inlineStrides k s (8 * b) t) (sym en) in

@@ -1,5 +1,4 @@
 pub mod BlockLaws
-pub mod MaskLaws
 pub mod PassedLaws
 pub mod RowsLaws
 pub mod SumLaws

@@ -1,2 +1,1 @@
-pub mod Block
 pub mod Window

@@ -16,8 +16,8 @@ use Rattle.loc_calls.specs.Areas.{Areas}
 pub use Rattle.loc_calls.specs.Reading.{complete}
 use Rattle.loc_calls.specs.Reading.{stridesAfter, spansAfter}
 use Rattle.loc_leaf.specs.Slot.{needsRow}
-pub use Rattle.loc_window.specs.Block.{slotBytes}
-use Rattle.loc_window.specs.Block.{rowMask, inlineStrides, inlineSpans}
+pub use Rattle.loc_leaf.specs.Block.{slotBytes}
+use Rattle.loc_leaf.specs.Block.{rowMask, inlineStrides, inlineSpans}
 use Rattle.loc_window.specs.declared.Sums.{Sums}
 use Rattle.loc_window.specs.declared.Step.{Step}
 use Rattle.loc_window.specs.declared.Step.the-variants.{Next, Lack}

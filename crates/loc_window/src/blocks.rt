@@ -1,24 +1,23 @@
 // The sums of whole blocks by their words, up to a marked one.
 // Each kind has its own loops, so that no block asks which kind it is of.
-ghost use Prim.Native.Nat.{_+_, _*_, _^_, _<_, _≤_};
+ghost use mathlib.Core.Path.{_≡_};
+ghost use Prim.Native.Nat.{_+_, _*_, _/_, _^_, _<_, _≤_};
 ghost use lib.ListN.{length};
 ghost use Rattle.loc_leaf.specs.declared.Kind.the-variants.{Paired, Single};
 ghost use Rattle.loc_window.specs.Window.{BlockReady, BlockStepped, PlainBlocks, BlocksPassed};
 use crate::Step;
 use crate::Sums;
-use crate::block::first_total;
-use crate::block::mask_after;
-use crate::block::none_empty;
-use crate::block::none_zero;
-use crate::block::pair_mask;
-use crate::block::second_total;
-use crate::block::single_mask;
-use crate::block::strides_total;
-use crate::block::word_at;
 use crate::rows::find_row;
 use crate::rows::row_value_at;
+use crate::rows::word_at;
 use loc_leaf::Kind;
+use loc_leaf::loc_simd::first_total;
 use loc_leaf::loc_simd::lowest_record;
+use loc_leaf::loc_simd::none_empty;
+use loc_leaf::loc_simd::none_zero;
+use loc_leaf::loc_simd::row_mask;
+use loc_leaf::loc_simd::second_total;
+use loc_leaf::loc_simd::strides_total;
 
 // The sums after the blocks from one on that are neither marked nor need a row.
 fn pair_plain(bytes: &[u8], full: usize, mark: &[u64], stamp: u64, s: Sums) -> Sums
@@ -60,6 +59,14 @@ fn pair_plain(bytes: &[u8], full: usize, mark: &[u64], stamp: u64, s: Sums) -> S
     }
 }
 
+// What a mask says of the records after record z: its bits above bit z.
+pub fn mask_after(mask: u64, z: usize) -> u64
+    requires { ⌜ z < 8 ⌝ }
+    ensures { λ r. ⌜ r ≡ mask / 2 ^ (z + 1) ⌝ }
+{
+    mask >> (z as u64 + 1)
+}
+
 // One block of which some records need rows: its bytes added up, then each such record's row put in place of its bytes.
 fn pair_rows(bytes: &[u8], rows: &[u8], count: usize, first: u64, s: Sums) -> Step
     requires { ⌜ BlockReady Paired first (now bytes) (now rows) count (s .block + 1) s ⌝ }
@@ -70,7 +77,7 @@ fn pair_rows(bytes: &[u8], rows: &[u8], count: usize, first: u64, s: Sums) -> St
     let mut x = s.strides + first_total(lo, hi);
     let mut y = s.spans + second_total(lo, hi);
     let mut row = s.row;
-    let mut left = pair_mask(lo, hi);
+    let mut left = row_mask(Kind::Paired, lo, hi);
     let mut j = 8 * s.block;
     while left != 0 {
         let z = lowest_record(left as u8) as usize;
@@ -174,7 +181,7 @@ fn single_rows(bytes: &[u8], rows: &[u8], count: usize, first: u64, s: Sums) -> 
     let hi = word_at(bytes, 16 * s.block + 8);
     let mut x = s.strides + strides_total(lo, hi);
     let mut row = s.row;
-    let mut left = single_mask(lo, hi);
+    let mut left = row_mask(Kind::Single, lo, hi);
     let mut j = 8 * s.block;
     while left != 0 {
         let z = lowest_record(left as u8) as usize;

@@ -3,18 +3,35 @@
 ghost use mathlib.Core.Path.{_≡_};
 ghost use mathlib.Core.List.{[]};
 ghost use Prim.Native.Nat.{_+_, _^_, _<_, _≤_};
-ghost use lib.ListN.{length, getD};
-ghost use Rattle.loc_leaf.specs.Bytes.{numberAt};
+ghost use lib.ListN.{length, getD, take, drop};
+ghost use Rattle.loc_leaf.specs.Bytes.{bytes, numberAt};
 ghost use Rattle.loc_leaf.specs.Rows.{rowList, rowValue, numberIn, rowsUpToByHalves};
 ghost use Rattle.loc_window.specs.Window.{Passed, Rising, FoundRow};
-use crate::block::word_at;
 use loc_leaf::Kind;
 use loc_leaf::Value;
 use loc_leaf::delta_loc::row_width;
 use loc_leaf::delta_loc::rows_up_to;
 use loc_leaf::file::FILE_HEADER_LEN;
+use loc_leaf::file::eight;
 use loc_leaf::file::four;
 use loc_leaf::file::u64_at;
+
+// Eight bytes of a slice as a word.
+pub fn word_at(s: &[u8], at: usize) -> u64
+    requires { ⌜ at + 8 ≤ length (now s) ⌝ }
+    ensures { λ r. ⌜ bytes 8 r ≡ take 8 (drop at (now (s .entry))) ⌝ }
+{
+    eight(
+        s[at],
+        s[at + 1],
+        s[at + 2],
+        s[at + 3],
+        s[at + 4],
+        s[at + 5],
+        s[at + 6],
+        s[at + 7],
+    )
+}
 
 // Four bytes of a slice as a number.
 fn half_at(s: &[u8], at: usize) -> u32

@@ -5,9 +5,9 @@ use native.Mathlib.Omega.{arith}
 use borrow.Author.Needs.{needs}
 use denote.Ref.{now}
 use Rattle.loc_leaf.specs.Slot.{needsRow}
-use Rattle.loc_window.specs.Block.{slotBytes}
+use Rattle.loc_leaf.specs.Block.{slotBytes}
 use Rattle.loc_total.specs.Slots.{SlotTotal}
-use Rattle.loc_window.proofs.MaskLaws.{bit-lt}
+use Rattle.loc_leaf.proofs.Lanes.{bit-lt}
 use Rattle.loc_total.proofs.SlotLaws.{totalOf, slots-small, slot-next, slots-end}
 use Rattle.loc_total.proofs.slots.last_slots.Statement.{statement}
 use Rattle.loc_total.proofs.slots.last_slots.Tie as tie

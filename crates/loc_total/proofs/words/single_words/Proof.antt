@@ -5,7 +5,7 @@ use mathlib.Core.Path.{refl}
 use native.Mathlib.Omega.{arith}
 use lib.Bits.{and-le-r}
 use borrow.Author.Needs.{needs}
-use Rattle.loc_window.proofs.BlockLaws.{word-mask}
+use Rattle.loc_leaf.proofs.BlockLaws.{word-mask}
 use Rattle.loc_total.specs.Slots.{SingleWords}
 use Rattle.loc_total.proofs.WordLaws.{single-none, single-next, single-room, single-kept, single-total}
 use Rattle.loc_total.proofs.words.single_words.Statement.{statement}

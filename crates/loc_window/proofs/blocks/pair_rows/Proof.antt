@@ -46,14 +46,14 @@ second-total-requires c κs = search needs
 add-y : tie.Need-add-y Inv-loop μ-loop
 add-y c = omega (arith, after-small _ _ _ _ _ _ (omega (arith, c .before .before .before .before .before .before .before .before .before .before .pre .few)) (c .before .before .before .before .before .before .before .before .before .before .pre .after) .1, c .before .second-total .ensures .1)
 
-pair-mask-requires : tie.Need-pair-mask-requires Inv-loop μ-loop
-pair-mask-requires c κs = search needs
+row-mask-requires : tie.Need-row-mask-requires Inv-loop μ-loop
+row-mask-requires c κs = search needs
 
 mul-j : tie.Need-mul-j Inv-loop μ-loop
 mul-j c = omega (arith, c .before .before .before .before .before .before .before .before .before .before .before .before .pre .few)
 
 loop-holds : tie.Need-loop-holds Inv-loop μ-loop
-loop-holds c = (omega arith, omega arith, swap-begin _ _ _ _ _ _ _ _ _ _ _ _ _ (c .before .before .before .before .before .before .before .before .word-at .ensures) (c .before .before .before .before .before .before .word-at2 .ensures) (c .before .before .before .before .before .before .before .before .before .before .before .before .pre .after) (c .before .before .before .before .before .first-total .ensures .0) (c .before .before .before .second-total .ensures .0) (omega (arith, c .before .before .before .before .before .first-total .ensures .1)) (omega (arith, c .before .before .before .second-total .ensures .1)) refl (c .before .pair-mask .ensures .0) (omega arith))
+loop-holds c = (omega arith, omega arith, swap-begin _ _ _ _ _ _ _ _ _ _ _ _ _ (c .before .before .before .before .before .before .before .before .word-at .ensures) (c .before .before .before .before .before .before .word-at2 .ensures) (c .before .before .before .before .before .before .before .before .before .before .before .before .pre .after) (c .before .before .before .before .before .first-total .ensures .0) (c .before .before .before .second-total .ensures .0) (omega (arith, c .before .before .before .before .before .first-total .ensures .1)) (omega (arith, c .before .before .before .second-total .ensures .1)) refl (c .before .row-mask .ensures .0) (omega arith))
 
 cast-lowest-record : tie.Need-cast-lowest-record Inv-loop μ-loop
 cast-lowest-record c = omega (arith, swap-byte _ _ _ _ _ _ _ _ _ _ (c .before .loop .inv .2) (omega (arith, c .before .loop .inv .0)))
@@ -164,7 +164,7 @@ pair-rows-spec =
     add-x
     second-total-requires
     add-y
-    pair-mask-requires
+    row-mask-requires
     mul-j
     loop-holds
     cast-lowest-record

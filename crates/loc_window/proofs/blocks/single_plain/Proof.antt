@@ -5,6 +5,8 @@ use mathlib.Core.Path.{refl}
 use native.Mathlib.Omega.{arith}
 use borrow.Author.Needs.{needs}
 use Rattle.loc_leaf.specs.declared.Kind.the-variants.{Single}
+use Rattle.loc_leaf.specs.Slot.{inline}
+use Rattle.loc_leaf.specs.Block.{sumFrom}
 use Rattle.loc_window.specs.Window.{sumsOf, PlainBlocks}
 use Rattle.loc_window.proofs.BlocksLaws.{plain-begin, plain-next}
 use Rattle.loc_window.proofs.blocks.single_plain.Statement.{statement}
@@ -60,6 +62,8 @@ loop-less : tie.Need-loop-less Inv-loop μ-loop
 loop-less c = omega arith
 
 loop-again : tie.Need-loop-again Inv-loop μ-loop
+-- a single block has no spans
+unfolding sumFrom inline
 loop-again c = plain-next _ _ _ _ _ _ _ _ _ _ _ _ 0 _ (c .before .before .before .before .before .before .word-at .ensures) (c .before .before .before .before .before .word-at2 .ensures) (c .before .before .before .before .before .before .before .before .loop .inv) (c .before .before .before .before .before .before .before .loop-test .taken) (c .before .before .before .if1 .left) (c .before .before .none-empty .ensures (c .before .if2 .taken)) (c .strides-total .ensures .0) refl (omega (arith, c .strides-total .ensures .1)) (omega arith) (omega arith)
 
 returns-2 : tie.Need-returns-2 Inv-loop μ-loop

@@ -6,6 +6,8 @@ use native.Mathlib.Omega.{arith}
 use borrow.Author.Needs.{needs}
 use denote.Ref.{now}
 use Rattle.loc_leaf.specs.declared.Kind.the-variants.{Single}
+use Rattle.loc_leaf.specs.Slot.{inline}
+use Rattle.loc_leaf.specs.Block.{sumFrom}
 use Rattle.loc_window.specs.Window.{Swapping}
 use Rattle.loc_window.proofs.SumLaws.{after-small}
 use Rattle.loc_window.proofs.BlocksLaws.{single-empty, single-spans, swap-begin, swap-end, swap-byte, swap-in, swap-needs, swap-passed, swap-small, swap-lack, swap-next}
@@ -40,14 +42,16 @@ strides-total-requires c κs = search needs
 add-x : tie.Need-add-x Inv-loop μ-loop
 add-x c = omega (arith, after-small _ _ _ _ _ _ (omega (arith, c .before .before .before .before .before .before .before .before .pre .few)) (c .before .before .before .before .before .before .before .before .pre .after) .0, c .before .strides-total .ensures .1)
 
-single-mask-requires : tie.Need-single-mask-requires Inv-loop μ-loop
-single-mask-requires c κs = search needs
+row-mask-requires : tie.Need-row-mask-requires Inv-loop μ-loop
+row-mask-requires c κs = search needs
 
 mul-j : tie.Need-mul-j Inv-loop μ-loop
 mul-j c = omega (arith, c .before .before .before .before .before .before .before .before .before .before .pre .few)
 
 loop-holds : tie.Need-loop-holds Inv-loop μ-loop
-loop-holds c = (omega arith, omega arith, swap-begin _ _ _ _ _ _ _ _ _ _ 0 _ _ (c .before .before .before .before .before .before .word-at .ensures) (c .before .before .before .before .word-at2 .ensures) (c .before .before .before .before .before .before .before .before .before .before .pre .after) (c .before .before .before .strides-total .ensures .0) refl (omega (arith, c .before .before .before .strides-total .ensures .1)) (omega arith) (omega arith) (c .before .single-mask .ensures .0) (omega arith))
+-- a single block has no spans
+unfolding sumFrom inline
+loop-holds c = (omega arith, omega arith, swap-begin _ _ _ _ _ _ _ _ _ _ 0 _ _ (c .before .before .before .before .before .before .word-at .ensures) (c .before .before .before .before .word-at2 .ensures) (c .before .before .before .before .before .before .before .before .before .before .pre .after) (c .before .before .before .strides-total .ensures .0) refl (omega (arith, c .before .before .before .strides-total .ensures .1)) (omega arith) (omega arith) (c .before .row-mask .ensures .0) (omega arith))
 
 cast-lowest-record : tie.Need-cast-lowest-record Inv-loop μ-loop
 cast-lowest-record c = omega (arith, swap-byte _ _ _ _ _ _ _ _ _ _ (c .before .loop .inv .2) (omega (arith, c .before .loop .inv .0)))
@@ -123,7 +127,7 @@ single-rows-spec =
     word-at-requires-2
     strides-total-requires
     add-x
-    single-mask-requires
+    row-mask-requires
     mul-j
     loop-holds
     cast-lowest-record

@@ -12,21 +12,16 @@ use lib.Dec.{ltb, eqb}
 use lib.ListN.{take, drop}
 use lib.Pow.{pow-pos, shr-shr, low}
 use borrow.Author.Tests.{ltb-true, ltb-false, ne-eqb}
 use Rattle.loc_leaf.specs.declared.Kind.{Kind}
 use Rattle.loc_leaf.specs.declared.Kind.the-variants.{Paired, Single}
-use Rattle.loc_leaf.specs.Bytes.{Bytes, byte, bytes}
-use Rattle.loc_leaf.specs.Block.{zeroBit, zeroMask, lowest}
+use Rattle.loc_leaf.specs.Bytes.{Bytes, bytes}
 use Rattle.loc_leaf.specs.Slot.{needsRow}
+use Rattle.loc_leaf.specs.Block.{slotBytes, rowBit, rowMask, lowest}
 use Rattle.loc_leaf.proofs.Booleans.{is?}
-use Rattle.loc_leaf.proofs.Lanes.{byte-mask, carry-mask, bytes-8, carries-8}
-use Rattle.loc_window.specs.Block.{slotBytes, rowBit, rowMask}
-use Rattle.loc_window.proofs.BlockLaws.{word-mask, word-parts, low-bytes, two-bytes, Agree, agree-here, agree-next, slots-agree}
+use Rattle.loc_leaf.proofs.Lanes.{byte-mask, carry-mask, bytes-8, lanes, bit-lt, carries-8, gather, gathered}
+use Rattle.loc_leaf.proofs.BlockLaws.{word-mask, word-parts, low-bytes, two-bytes}
 
 -- ---- bits and bytes
-
-pub bit-lt : (b : Bool) → cond b 1 0 < 2
-bit-lt true = omega arith
-bit-lt false = omega arith
 
 byte-lt : (n : ℕ) → n % 256 < 256
 byte-lt n = omega arith
@@ -36,12 +31,6 @@ bit-zero true e = absurd (omega arith)
 bit-zero false e = refl
 
 -- ---- the mask of n records
-
-mask-same : (kd : Kind) (a b : Bytes) (i j n : ℕ) → Agree (rowBit kd a) (rowBit kd b) i j n → rowMask kd a i n ≡ rowMask kd b j n
-unfolding rowMask
-mask-same kd a b i j zero e = refl
-mask-same kd a b i j (suc n) e =
-    (λ x. agree-here (rowBit kd a) (rowBit kd b) i j n e x + 2 * mask-same kd a b (i + 1) (j + 1) n (agree-next (rowBit kd a) (rowBit kd b) i j n e) x)
 
 module _ (kd : Kind) (s : Bytes) where
   mask-lt : (j n m : ℕ) → n ≤ m → rowMask kd s j n < 2 ^ m
@@ -131,30 +120,12 @@ module _ (kd : Kind) (s : Bytes) where
   pub mask-first : (j n z : ℕ) → n ≤ 8 → (rowMask kd s j n ≡ 0 → ⊥) → z ≡ lowest 8 (rowMask kd s j n) → First j n z
   mask-first j n z h f e = rw e (first-of 8 j n h f)
 
--- the mask of a block is that of its records in the copy
-pub block-mask : (s : Bytes) (k lo hi : ℕ) → bytes 8 lo ≡ take 8 (drop (2 * k) s) → bytes 8 hi ≡ take 8 (drop (2 * k + 8) s)
-    → (kd : Kind) → rowMask kd (bytes 8 lo ++ bytes 8 hi) 0 8 ≡ rowMask kd s k 8
-block-mask s k lo hi el eh kd = mask-same kd (bytes 8 lo ++ bytes 8 hi) s 0 k 8 (slots-agree s k lo hi el eh (λ l. cond (needsRow kd l) 1 0))
-
--- and is put together from those of its words
+-- the mask of a block is put together from those of its words
 pub words-append : (kd : Kind) (lo hi : ℕ) → rowMask kd (bytes 8 lo) 0 4 + 16 * rowMask kd (bytes 8 hi) 0 4 ≡ rowMask kd (bytes 8 lo ++ bytes 8 hi) 0 8
 unfolding rowMask bytes
 words-append kd lo hi = omega arith
 
 -- ---- a paired block
-
-pair-bit : (x y : ℕ) → cond (needsRow Paired (x ∷ y ∷ [])) 1 0 ≡ zeroBit x y
-unfolding needsRow zeroBit
-pair-bit zero y = refl
-pair-bit (suc x) zero = rw (ne-eqb (suc x) 0 (λ e. omega arith)) refl
-pair-bit (suc x) (suc y) = rw (ne-eqb (suc x) 0 (λ e. omega arith), ne-eqb (suc y) 0 (λ e. omega arith)) refl
-
-pub pair-mask-is : (lo hi : ℕ) → rowMask Paired (bytes 8 lo ++ bytes 8 hi) 0 8 ≡ zeroMask (bytes 8 lo ++ bytes 8 hi)
-unfolding rowMask zeroMask bytes
-pair-mask-is lo hi =
-    let b : ℕ → ℕ = (λ u. byte u (bytes 8 lo ++ bytes 8 hi)) in
-    let bit : (t : ℕ) → cond (needsRow Paired (b (2 * t) ∷ b (2 * t + 1) ∷ [])) 1 0 ≡ zeroBit (b (2 * t)) (b (2 * t + 1)) = (λ t. pair-bit (b (2 * t)) (b (2 * t + 1))) in
-    (λ i. bit 0 i + 2 * (bit 1 i + 2 * (bit 2 i + 2 * (bit 3 i + 2 * (bit 4 i + 2 * (bit 5 i + 2 * (bit 6 i + 2 * (bit 7 i + 2 * 0))))))))
 
 -- r has the carries of the records of w that need no row
 abbrev pub Full : ℕ → ℕ → Type 0
@@ -162,19 +133,30 @@ Full w r =
     r + 2 ^ 8 * rowBit Paired (bytes 8 w) 0 + 2 ^ 24 * rowBit Paired (bytes 8 w) 1 + 2 ^ 40 * rowBit Paired (bytes 8 w) 2 + 2 ^ 56 * rowBit Paired (bytes 8 w) 3
     ≡ carry-mask
 
-pub full-word : (w : ℕ) → w < 2 ^ 64 → Full w (bitAnd (bitAnd (bitAnd w byte-mask + byte-mask) (bitAnd (w / 2 ^ 8) byte-mask + byte-mask)) carry-mask)
-full-word w h =
-    let bit : (x y : ℕ) → (cond (needsRow Paired (x ∷ y ∷ [])) 1 0 ≡ zeroBit x y) × (cond (needsRow Paired (x ∷ y ∷ [])) 1 0 < 2) = (λ x y. (pair-bit x y, bit-lt (needsRow Paired (x ∷ y ∷ [])))) in
+pub full-word : (w : ℕ) → Full w (bitAnd (bitAnd (bitAnd w byte-mask + byte-mask) (bitAnd (w / 2 ^ 8) byte-mask + byte-mask)) carry-mask)
+full-word w =
     (λ i.
-    carries-8 w h i + 2 ^ 8 * rowBit Paired (bytes-8 w i) 0 + 2 ^ 24 * rowBit Paired (bytes-8 w i) 1 + 2 ^ 40 * rowBit Paired (bytes-8 w i) 2
+    carries-8 w i + 2 ^ 8 * rowBit Paired (bytes-8 w i) 0 + 2 ^ 24 * rowBit Paired (bytes-8 w i) 1 + 2 ^ 40 * rowBit Paired (bytes-8 w i) 2
     + 2 ^ 56 * rowBit Paired (bytes-8 w i) 3)
     ∙ omega (
       arith,
-      bit (w % 256) (w / 2 ^ 8 % 256),
-      bit (w / 2 ^ 16 % 256) (w / 2 ^ 24 % 256),
-      bit (w / 2 ^ 32 % 256) (w / 2 ^ 40 % 256),
-      bit (w / 2 ^ 48 % 256) (w / 2 ^ 56 % 256),
+      bit-lt (needsRow Paired (w % 256 ∷ w / 2 ^ 8 % 256 ∷ [])),
+      bit-lt (needsRow Paired (w / 2 ^ 16 % 256 ∷ w / 2 ^ 24 % 256 ∷ [])),
+      bit-lt (needsRow Paired (w / 2 ^ 32 % 256 ∷ w / 2 ^ 40 % 256 ∷ [])),
+      bit-lt (needsRow Paired (w / 2 ^ 48 % 256 ∷ w / 2 ^ 56 % 256 ∷ [])),
     )
+
+-- the carries that are missing, side by side
+pub zero-nibble-is : (w r : ℕ) → Full w r → gather ((carry-mask - r) / 2 ^ 8) ≡ rowMask Paired (bytes 8 w) 0 4
+unfolding rowMask
+zero-nibble-is w r f =
+    let b : (j : ℕ) → rowBit Paired (bytes 8 w) j < 2 = (λ j. bit-lt (needsRow Paired (slotBytes (bytes 8 w) j))) in
+    let e : (carry-mask - r) / 2 ^ 8 ≡ lanes (rowBit Paired (bytes 8 w) 0) (rowBit Paired (bytes 8 w) 1) (rowBit Paired (bytes 8 w) 2) (rowBit Paired (bytes 8 w) 3) =
+    missing r _ _ _ _ (b 0) (b 1) (b 2) (b 3) f in
+    ap gather e ∙ gathered _ _ _ _ (b 0) (b 1) (b 2) (b 3)
+  where
+    missing : (r x y z t : ℕ) → x < 2 → y < 2 → z < 2 → t < 2 → r + 2 ^ 8 * x + 2 ^ 24 * y + 2 ^ 40 * z + 2 ^ 56 * t ≡ carry-mask → (carry-mask - r) / 2 ^ 8 ≡ lanes x y z t
+    missing r x y z t hx hy hz ht f = omega arith
 
 -- all carries are there: none of the word's records needs a row
 all-full : (w r : ℕ) → Full w r → carry-mask ≤ r → rowMask Paired (bytes 8 w) 0 4 ≡ 0
@@ -226,13 +208,13 @@ record-3 : (w : ℕ) → rowBit Single (bytes 8 (w / 2 ^ 16)) 2 ≡ rowBit Singl
 unfolding bytes
 record-3 w = ap (λ (n : ℕ). cond (needsRow Single (n / 256 / 256 / 256 / 256 % 256 ∷ n / 256 / 256 / 256 / 256 / 256 % 256 ∷ [])) 1 0) (sym (shr-shr w 8 8))
 
--- the code's steps in nibble: the missing carries of records 0 and 2 beside those of 1 and 3
+-- the code's steps in empty_nibble: the missing carries of records 0 and 2 beside those of 1 and 3
 abbrev beside : ℕ → ℕ → ℕ
 beside a b = (word-carries - a) / 2 ^ 16 + (word-carries - b) / 2 ^ 15
 
-gathered : (a b x y z t : ℕ) → x < 2 → y < 2 → z < 2 → t < 2 → a + 2 ^ 16 * x + 2 ^ 48 * z ≡ word-carries → b + 2 ^ 16 * y + 2 ^ 48 * t ≡ word-carries
+gathered-2 : (a b x y z t : ℕ) → x < 2 → y < 2 → z < 2 → t < 2 → a + 2 ^ 16 * x + 2 ^ 48 * z ≡ word-carries → b + 2 ^ 16 * y + 2 ^ 48 * t ≡ word-carries
     → bitAnd (beside a b + beside a b / 2 ^ 30) 15 ≡ x + 2 * (y + 2 * (z + 2 * (t + 2 * 0)))
-gathered a b x y z t hx hy hz ht e f =
+gathered-2 a b x y z t hx hy hz ht e f =
     let p : (word-carries - a) / 2 ^ 16 ≡ x + 2 ^ 32 * z = omega arith in
     let q : (word-carries - b) / 2 ^ 15 ≡ 2 * y + 2 ^ 33 * t = omega arith in
     let n : ℕ = x + 2 ^ 32 * z + (2 * y + 2 ^ 33 * t) in
@@ -250,9 +232,9 @@ module _ (w a b : ℕ) (even : Even w a) (odd : Even (w / 2 ^ 16) b) where
   unfolding rowMask
   four-full p q = omega (arith, odd-is)
 
-  pub nibble-is : bitAnd (beside a b + beside a b / 2 ^ 30) 15 ≡ rowMask Single (bytes 8 w) 0 4
+  pub empty-nibble-is : bitAnd (beside a b + beside a b / 2 ^ 30) 15 ≡ rowMask Single (bytes 8 w) 0 4
   unfolding rowMask
-  nibble-is = gathered a b _ _ _ _ (bit-lt (needsRow Single (slotBytes (bytes 8 w) 0))) (bit-lt (needsRow Single (slotBytes (bytes 8 w) 1)))
+  empty-nibble-is = gathered-2 a b _ _ _ _ (bit-lt (needsRow Single (slotBytes (bytes 8 w) 0))) (bit-lt (needsRow Single (slotBytes (bytes 8 w) 1)))
       (bit-lt (needsRow Single (slotBytes (bytes 8 w) 2))) (bit-lt (needsRow Single (slotBytes (bytes 8 w) 3))) even odd-is
 
 pub none-empty-mask : (lo hi a b c d : ℕ) → Even lo a → Even (lo / 2 ^ 16) b → Even hi c → Even (hi / 2 ^ 16) d

@@ -1,10 +1,10 @@
--- `loc_window::block::word_at` meets its contract.
+-- `loc_window::rows::word_at` meets its contract.
 -- The word is put together from eight bytes, each below 256.
 use borrow.Author.Needs.{needs}
 use denote.Ref.{now}
 use Rattle.loc_window.proofs.BlockLaws.{word-bytes}
-use Rattle.loc_window.proofs.block.word_at.Statement.{statement}
-use Rattle.loc_window.proofs.block.word_at.Tie as tie
+use Rattle.loc_window.proofs.rows.word_at.Statement.{statement}
+use Rattle.loc_window.proofs.rows.word_at.Tie as tie
 
 shared-slice-read-eight : tie.Need-shared-slice-read-eight
 shared-slice-read-eight c = search needs

@@ -1,11 +1,11 @@
--- `loc_window::block::strides_total` meets its contract.
+-- `loc_leaf::loc_simd::strides_total` meets its contract.
 -- No lane of a sum of sixteen bits reaches 2^32.
 use Prim.Native.Nat.{_/_, _^_}
 use native.Mathlib.Omega.{arith}
 use lib.Bits.{and-le-r}
-use Rattle.loc_window.proofs.BlockLaws.{word-mask, total-records, records-small}
-use Rattle.loc_window.proofs.block.strides_total.Statement.{statement}
-use Rattle.loc_window.proofs.block.strides_total.Tie as tie
+use Rattle.loc_leaf.proofs.BlockLaws.{word-mask, total-records, records-small}
+use Rattle.loc_leaf.proofs.loc_simd.strides_total.Statement.{statement}
+use Rattle.loc_leaf.proofs.loc_simd.strides_total.Tie as tie
 
 add-e : tie.Need-add-e
 add-e c = omega (arith, and-le-r (c .args .lo) word-mask, and-le-r (c .args .lo / 2 ^ 16) word-mask)

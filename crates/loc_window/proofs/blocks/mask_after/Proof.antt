@@ -1,9 +1,9 @@
--- `loc_window::block::mask_after` meets its contract.
+-- `loc_window::blocks::mask_after` meets its contract.
 -- A shift by z + 1 is the quotient by 2 ^ (z + 1).
 use native.Mathlib.Omega.{arith}
 use borrow.Author.Needs.{needs}
-use Rattle.loc_window.proofs.block.mask_after.Statement.{statement}
-use Rattle.loc_window.proofs.block.mask_after.Tie as tie
+use Rattle.loc_window.proofs.blocks.mask_after.Statement.{statement}
+use Rattle.loc_window.proofs.blocks.mask_after.Tie as tie
 
 add-result : tie.Need-add-result
 add-result c = search needs

@@ -1,10 +1,10 @@
--- `loc_window::block::none_empty` meets its contract.
+-- `loc_leaf::loc_simd::none_empty` meets its contract.
 -- The carries of four words are all there only where each word has all of its own.
 use borrow.Author.Needs.{needs}
 use borrow.Author.Tests.{eqb-true}
-use Rattle.loc_window.proofs.MaskLaws.{none-empty-mask}
-use Rattle.loc_window.proofs.block.none_empty.Statement.{statement}
-use Rattle.loc_window.proofs.block.none_empty.Tie as tie
+use Rattle.loc_leaf.proofs.MaskLaws.{none-empty-mask}
+use Rattle.loc_leaf.proofs.loc_simd.none_empty.Statement.{statement}
+use Rattle.loc_leaf.proofs.loc_simd.none_empty.Tie as tie
 
 even-full-requires : tie.Need-even-full-requires
 even-full-requires c κs = search needs

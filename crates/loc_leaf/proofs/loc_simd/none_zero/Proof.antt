@@ -1,10 +1,10 @@
--- `loc_window::block::none_zero` meets its contract.
+-- `loc_leaf::loc_simd::none_zero` meets its contract.
 -- The carries of two words are all there only where each word has all of its own.
 use borrow.Author.Needs.{needs}
 use borrow.Author.Tests.{eqb-true}
-use Rattle.loc_window.proofs.MaskLaws.{none-zero-mask}
-use Rattle.loc_window.proofs.block.none_zero.Statement.{statement}
-use Rattle.loc_window.proofs.block.none_zero.Tie as tie
+use Rattle.loc_leaf.proofs.MaskLaws.{none-zero-mask}
+use Rattle.loc_leaf.proofs.loc_simd.none_zero.Statement.{statement}
+use Rattle.loc_leaf.proofs.loc_simd.none_zero.Tie as tie
 
 full-requires : tie.Need-full-requires
 full-requires c κs = search needs
