@@ -1,14 +1,14 @@
 -- What a store does to an area's size, counted length and pieces.
 -- The laws ask 16 bytes of an area only where they speak of its published length.
-use Prim.Native.Nat.{ℕ, zero, suc, _+_, _*_, _^_, _≤_, _<_, min}
+use Prim.Native.Nat.{ℕ, zero, suc, _+_, _-_, _*_, _/_, _%_, _^_, _≤_, _<_, min}
 use mathlib.Core.Path.{_≡_, refl, sym, ap, _∙_}
 use mathlib.Core.List.{List, [], _∷_, _++_, append-assoc, flatten}
-use native.Mathlib.Nat.{mul-zero, mul-suc, zero-add, suc-add, le-of-suc-le-suc, not-suc-le-zero, add-comm, zero-min, min-zero, suc-min-suc}
+use native.Mathlib.Nat.{mul-comm, mul-zero, mul-suc, zero-div, zero-mod, div-zero, mod-zero, div-mul-le-self, zero-add, suc-add, le-of-suc-le-suc, not-suc-le-zero, add-comm, zero-min, min-zero, suc-min-suc}
 use native.Mathlib.Omega.{arith}
 use lib.ListN.{length, take, drop, getD, length-append, length-take}
 use lib.Seq.{take-at, drop-at, take-take, drop-drop, take-nil}
 use Rattle.loc_leaf.specs.Bytes.{Bytes, bytes, numberAt, store}
-use Rattle.loc_leaf.specs.Area.{counted, storeLength, storePast, pieces}
+use Rattle.loc_leaf.specs.Area.{counted, storeLength, storePast, pieces, fill, InPieces}
 use Rattle.loc_leaf.proofs.Stored.{length-bytes, at-first, length-store, take-store, drop-store, drop-stored}
 
 -- ---- lists
@@ -51,6 +51,30 @@ counted-le xs = omega arith
 pub counted-ge : (xs : Bytes) → 16 ≤ length xs → 16 ≤ counted xs
 unfolding counted
 counted-ge xs h = omega arith
+
+-- ---- what is published, in pieces
+
+module _ (w : ℕ) (xs : Bytes) (end : ℕ) (e : end ≡ counted xs) where
+  pub in-no-pieces : end < 16 → InPieces w xs (record { end = end; count = 0; left = 0 })
+  unfolding fill
+  in-no-pieces h =
+      let z : counted xs - 16 ≡ 0 = omega arith in
+      record { end = e; count = rw z (sym (zero-div w)); left = rw z (sym (zero-mod w)); inside = omega (arith, counted-le xs); room = rw (mul-zero w) (omega arith) }
+
+  pub in-width-0 : w ≡ 0 → InPieces w xs (record { end = end; count = 0; left = end - 16 })
+  unfolding fill
+  in-width-0 h =
+      record { end = e; count = rw h (sym (div-zero _)); left = rw (e, h) (sym (mod-zero _)); inside = omega (arith, counted-le xs); room = rw (mul-zero w) (omega arith) }
+
+  pub in-pieces : InPieces w xs (record { end = end; count = (end - 16) / w; left = (end - 16) % w })
+  unfolding fill
+  in-pieces = record {
+    end = e;
+    count = rw e refl;
+    left = rw e refl;
+    inside = omega (arith, counted-le xs);
+    room = omega (arith, mul-comm w ((end - 16) / w), div-mul-le-self (end - 16) w, counted-le xs);
+  }
 
 -- ---- a stored length
 

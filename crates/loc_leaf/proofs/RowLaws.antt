@@ -5,7 +5,7 @@ use mathlib.Core.Path.{_≡_, refl, sym, ap, _∙_}
 use mathlib.Core.Logic.{_⊎_, inl, inr, ⊎-elim}
 use mathlib.Core.Bool.{Bool, true, false, cond}
 use mathlib.Core.List.{List, [], _∷_}
-use native.Mathlib.Nat.{mul-zero, mul-suc, mul-le-mul-left, add-zero, sub-zero, zero-div, add-comm, le-antisymm, eq-or-lt-of-le, le-of-suc-le-suc, not-suc-le-zero}
+use native.Mathlib.Nat.{mul-zero, mul-suc, mul-le-mul-left, add-zero, sub-zero, add-comm, le-antisymm, eq-or-lt-of-le, le-of-suc-le-suc, not-suc-le-zero}
 use native.Mathlib.Omega.{arith}
 use native.Mathlib.Decide.{decLe}
 use lib.Dec.{leb, ltb, eqb}
@@ -53,18 +53,12 @@ piece-value Single xs = rw (field-in 4 8 12 xs (omega arith)) refl
 
 -- ---- how many there are
 
-module _ (k : Kind) (xs : Bytes) (end : ℕ) (e : end ≡ counted xs) where
-  pub count-none : end < 16 → 0 ≡ fill (rowWidth k) xs
-  unfolding fill
-  count-none h = let z : counted xs - 16 ≡ 0 = omega arith in rw z (sym (zero-div (rowWidth k)))
+module _ (k : Kind) (xs : Bytes) (n : ℕ) where
+  pub count-paired : k ≡ Paired → n ≡ fill 16 xs → n ≡ fill (rowWidth k) xs
+  count-paired q e = rw q e
 
-  pub count-paired : k ≡ Paired → (end - 16) / 16 ≡ fill (rowWidth k) xs
-  unfolding fill
-  count-paired q = rw (q, e) refl
-
-  pub count-single : k ≡ Single → (end - 16) / 12 ≡ fill (rowWidth k) xs
-  unfolding fill
-  count-single q = rw (q, e) refl
+  pub count-single : k ≡ Single → n ≡ fill 12 xs → n ≡ fill (rowWidth k) xs
+  count-single q e = rw q e
 
 -- the rows lie within the area
 pub rows-room : (k : Kind) (xs : Bytes) (w n : ℕ) → w ≡ rowWidth k → n ≡ fill (rowWidth k) xs → w * n ≤ length xs - 16

@@ -8,10 +8,10 @@ use mathlib.Core.List.{List, [], _∷_}
 use native.Mathlib.Omega.{arith}
 use lib.Dec.{leb, ltb}
 use lib.ListN.{length, take}
-use borrow.Author.Tests.{lt-leb, leb-false}
+use borrow.Author.Tests.{le-leb, lt-leb, leb-true, leb-false, ltb-true}
 use Rattle.loc_leaf.specs.Bytes.{Bytes}
-use Rattle.loc_leaf.specs.Rows.{rowNumber, ascending, rowsUpTo}
-use Rattle.loc_leaf.proofs.Booleans.{is?, both-right}
+use Rattle.loc_leaf.specs.Rows.{rowNumber, ascending, lastNumber, rowsUpTo}
+use Rattle.loc_leaf.proofs.Booleans.{is?, both-left, both-right}
 use Rattle.loc_leaf.proofs.RowLaws.{none-up-to}
 
 -- the rows up to n hold all rows up to a smaller number
@@ -39,3 +39,31 @@ up-to-le n (r ∷ rs) = go (is? (leb (rowNumber r) n)) (up-to-le n rs)
     go : (leb (rowNumber r) n ≡ true) ⊎ (leb (rowNumber r) n ≡ false) → rowsUpTo n rs ≤ length rs → rowsUpTo n (r ∷ rs) ≤ length (r ∷ rs)
     go (inl t) more = rw t (omega arith)
     go (inr t) more = rw t (omega arith)
+
+-- ---- the last number tells whether all rows are numbered up to n
+
+last-above : (b : ℕ) (rs : List Bytes) → ascending b rs ≡ true → b ≤ lastNumber b rs
+unfolding ascending lastNumber
+last-above b [] a = omega arith
+last-above b (r ∷ rs) a =
+    omega (
+      arith,
+      ltb-true b (rowNumber r) (both-left (ltb b (rowNumber r)) (ascending (rowNumber r) rs) a),
+      last-above (rowNumber r) rs (both-right (ltb b (rowNumber r)) (ascending (rowNumber r) rs) a),
+    )
+
+pub up-to-all : (n b : ℕ) (rs : List Bytes) → ascending b rs ≡ true → lastNumber b rs ≤ n → rowsUpTo n rs ≡ length rs
+unfolding ascending lastNumber rowsUpTo
+up-to-all n b [] a h = refl
+up-to-all n b (r ∷ rs) a h =
+    let rest : ascending (rowNumber r) rs ≡ true = both-right (ltb b (rowNumber r)) (ascending (rowNumber r) rs) a in
+    rw (le-leb (rowNumber r) n (omega (arith, last-above (rowNumber r) rs rest)), up-to-all n (rowNumber r) rs rest h) refl
+
+pub up-to-fewer : (n b : ℕ) (rs : List Bytes) → b ≤ n → n < lastNumber b rs → rowsUpTo n rs < length rs
+unfolding lastNumber rowsUpTo
+up-to-fewer n b [] g h = absurd (omega arith)
+up-to-fewer n b (r ∷ rs) g h = go (is? (leb (rowNumber r) n)) (λ l. up-to-fewer n (rowNumber r) rs l h)
+  where
+    go : (leb (rowNumber r) n ≡ true) ⊎ (leb (rowNumber r) n ≡ false) → (rowNumber r ≤ n → rowsUpTo n rs < length rs) → rowsUpTo n (r ∷ rs) < length (r ∷ rs)
+    go (inl t) more = rw t (omega (arith, more (leb-true (rowNumber r) n t)))
+    go (inr t) more = rw t (omega (arith, up-to-le n rs))

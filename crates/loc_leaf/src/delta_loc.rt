@@ -2,19 +2,19 @@
 // A row area is handed over whole; its published rows are counted here.
 ghost use mathlib.Core.Path.{_≡_};
 ghost use mathlib.Core.List.{[], _∷_};
-ghost use Prim.Native.Nat.{_+_, _-_, _*_, _^_, _≤_, _<_, min};
+ghost use Prim.Native.Nat.{_+_, _-_, _*_, _^_, _≤_, _<_, min, max};
 ghost use Rattle.loc_leaf.specs.Bytes.{byte};
 ghost use Rattle.loc_leaf.specs.Area.{fill};
 ghost use Rattle.loc_leaf.specs.Kind.{rowWidth, checkpointWidth, windowOf, withinWindow};
 ghost use Rattle.loc_leaf.specs.Slot.{stridesFrom, below, slot, needsRow, inline, slotAt, checkpointRule};
-ghost use Rattle.loc_leaf.specs.Rows.{rowValue, rowList, lastNumber, rowsUpToByHalves, Looked, lookupByHalves, slotValueByHalves};
+ghost use Rattle.loc_leaf.specs.Rows.{rowValue, rowList, rowsUpToByHalves, Looked, lookupByHalves, slotValueByHalves};
 ghost use Rattle.loc_leaf.specs.Cut.{agrees, overflows, matches, cutFor};
 use crate::Answer;
 use crate::Kind;
 use crate::Value;
 use crate::file::FILE_HEADER_LEN;
 use crate::file::byte_at;
-use crate::file::logical_len;
+use crate::file::published;
 use crate::file::u32_at;
 use crate::file::u64_at;
 use crate::refusal::BODY_EMPTY;
@@ -28,6 +28,11 @@ pub const IDX_STRIDE: u64 = 8;
 
 // Records of a window.
 pub const LOC_WINDOW: u64 = 1024;
+
+// Where a row's strides stand, and a paired row's spans; its number begins it.
+pub const ROW_STRIDES: usize = 8;
+
+pub const ROW_SPANS: usize = 12;
 
 // What a search for a record's row, or a slot's values, finds.
 pub enum Lookup {
@@ -51,6 +56,18 @@ pub fn checkpoint_width(kind: Kind) -> usize
         Kind::Paired => 16,
         Kind::Single => 8,
     }
+}
+
+pub fn lesser(a: u64, b: u64) -> u64
+    ensures { λ r. ⌜ r ≡ min a b ⌝ }
+{
+    if b < a { b } else { a }
+}
+
+pub fn larger(a: u64, b: u64) -> u64
+    ensures { λ r. ⌜ r ≡ max a b ⌝ }
+{
+    if b < a { a } else { b }
 }
 
 // A sum that stops at the largest number.
@@ -242,11 +259,11 @@ pub fn row_value(kind: Kind, row: &[u8]) -> Value
 {
     match kind {
         Kind::Paired => Value {
-            strides: u32_at(row, 8),
-            spans: u32_at(row, 12),
+            strides: u32_at(row, ROW_STRIDES),
+            spans: u32_at(row, ROW_SPANS),
         },
         Kind::Single => Value {
-            strides: u32_at(row, 8),
+            strides: u32_at(row, ROW_STRIDES),
             spans: 0,
         },
     }
@@ -274,26 +291,10 @@ pub fn cut_for_ovf_row(kind: Kind, slots: &[u8], n: u64, last: u64, row: &[u8]) 
 pub fn row_count(kind: Kind, rows: &[u8]) -> usize
     ensures { λ r. ⌜ r ≡ fill (rowWidth kind) (now (rows .entry)) ⌝ }
 {
-    let end = logical_len(rows);
-    if end < FILE_HEADER_LEN {
-        return 0;
-    }
     match kind {
-        Kind::Paired => (end - FILE_HEADER_LEN) / 16,
-        Kind::Single => (end - FILE_HEADER_LEN) / 12,
+        Kind::Paired => published(rows, 16).count,
+        Kind::Single => published(rows, 12).count,
     }
-}
-
-// The last row's number, 0 where there is none.
-pub fn last_number(kind: Kind, rows: &[u8]) -> u64
-    ensures { λ r. ⌜ r ≡ lastNumber 0 (rowList kind (now (rows .entry))) ⌝ }
-{
-    let n = row_count(kind, rows);
-    if n == 0 {
-        return 0;
-    }
-    let width = row_width(kind);
-    u64_at(rows, FILE_HEADER_LEN + width * (n - 1))
 }
 
 // How many rows have a number up to n, by halves.

@@ -4,7 +4,7 @@ ghost use mathlib.Core.Path.{_≡_};
 ghost use Prim.Native.Nat.{_+_, _*_, _≤_};
 ghost use lib.ListN.{length, take};
 ghost use Rattle.loc_leaf.specs.Bytes.{byte, number, bytes, numberAt, store};
-ghost use Rattle.loc_leaf.specs.Area.{counted, storeLength};
+ghost use Rattle.loc_leaf.specs.Area.{counted, storeLength, InPieces};
 
 // Where the published bytes of an area begin.
 pub const FILE_HEADER_LEN: usize = 16;
@@ -128,6 +128,37 @@ pub fn logical_len(area: &[u8]) -> usize
         return len;
     }
     n as usize
+}
+
+// What an area publishes in pieces of a width: up to which place, how many whole ones, and how many bytes are left over.
+pub struct Pieces {
+    pub end: usize,
+    pub count: usize,
+    pub left: usize,
+}
+
+pub fn published(area: &[u8], width: usize) -> Pieces
+    ensures { λ r. ⌜ InPieces width (now (area .entry)) r ⌝ }
+{
+    let end = logical_len(area);
+    if end < FILE_HEADER_LEN {
+        return Pieces {
+            end,
+            count: 0,
+            left: 0,
+        };
+    }
+    let bytes = end - FILE_HEADER_LEN;
+    if width == 0 {
+        return Pieces {
+            end,
+            count: 0,
+            left: bytes,
+        };
+    }
+    let count = bytes / width;
+    let left = bytes % width;
+    Pieces { end, count, left }
 }
 
 pub fn store_len(area: &mut [u8], len: u64)
