@@ -2,14 +2,14 @@
 -- A law for each way through a function: the results of its calls and its tests are premises.
 use Prim.Native.Nat.{ℕ, _+_, _-_, _*_, _/_, _≤_, _<_}
 use mathlib.Core.Path.{_≡_, refl, sym, ap, _∙_}
-use mathlib.Core.Bool.{Bool, true, false, _&&_}
+use mathlib.Core.Bool.{Bool, true, false, false≢true}
 use mathlib.Core.List.{[], _∷_}
 use native.Mathlib.Nat.{div-eq-of-lt, div-eq-sub-div, div-mul-le-self, mul-comm}
 use native.Mathlib.Numerals.{add-one}
 use native.Mathlib.Omega.{arith}
 use native.Mathlib.Decide.{decLe}
 use lib.Dec.{ltb}
-use borrow.Author.Tests.{le-leb, lt-leb, lt-ltb, le-ltb}
+use borrow.Author.Tests.{le-leb, lt-leb}
 use lib.ListN.{length, take, drop, drop-of-length-le, length-take}
 use lib.Seq.{take-take, drop-drop, length-take-le}
 use Rattle.loc_leaf.specs.declared.Kind.{Kind}
@@ -19,7 +19,7 @@ use Rattle.loc_leaf.specs.Area.{counted, pieces, fill, published}
 use Rattle.loc_leaf.specs.Kind.{rowWidth}
 use Rattle.loc_leaf.specs.Rows.{rowNumber, rowValue, rowList, ascending}
 use Rattle.loc_leaf.proofs.AreaLaws.{take-drop, pieces-cong}
-use Rattle.loc_rows.specs.Reader.{fields, rowAt, rowsFrom}
+use Rattle.loc_rows.specs.Reader.{fields, rowAt, rowsFrom, isEnd, isAbove, numberOf}
 use Rattle.loc_rows.specs.declared.Row.{Row}
 use Rattle.loc_rows.specs.declared.Row.the-variants.{At, End}
 
@@ -46,34 +46,6 @@ module _ (w : ℕ) (xs : Bytes) (at : ℕ) where
   row-there g h n s p next e en es ep =
       let z : next - at ≡ w = omega arith in
       rw (en, es, ep, z, e) (sym (row-whole (omega arith)))
-
--- a row that was read stands there whole, and this is its number and the next place
-pub record Stands (w : ℕ) (xs : Bytes) (at n s p next : ℕ) : Type 0 where
-  pub inside : at + w ≤ length xs
-  pub number : n ≡ rowNumber (take w (drop at xs))
-  pub strides : s ≡ numberAt 4 8 (take w (drop at xs))
-  pub spans : p ≡ numberAt 4 12 (take w (drop at xs))
-  pub after : next ≡ at + w
-
-zero-one : _≡_ {A = ℕ} 0 1 → ⊥
-zero-one z = omega arith
-
-module _ (w : ℕ) (xs : Bytes) (at : ℕ) (r : Row) (e : r ≡ rowAt w xs at) where
-  pub stands : {n s p next : ℕ} → r ≡ At n s p next → Stands w xs at n s p next
-  unfolding fields
-  stands {n} {s} {p} {next} q = go (decLe (at + w) (length xs))
-    where
-      go : Dec (at + w ≤ length xs) → Stands w xs at n s p next
-      go (yes h) = let i = row-whole w xs at h in record { inside = h; number = cc; strides = cc; spans = cc; after = cc }
-      go (no h) = let i = row-none w xs at (omega arith) in let z : _≡_ {A = ℕ} 0 1 = cc in absurd (zero-one z)
-
-  pub ends : r ≡ End → length xs < at + w
-  unfolding fields
-  ends q = go (decLe (at + w) (length xs))
-    where
-      go : Dec (at + w ≤ length xs) → length xs < at + w
-      go (yes h) = let i = row-whole w xs at h in let z : _≡_ {A = ℕ} 0 1 = cc in absurd (zero-one z)
-      go (no h) = omega arith
 
 -- the values of a row of a kind's width: one of 12 bytes has no spans
 pub row-value : (k : Kind) (xs : Bytes) → record { strides = numberAt 4 8 (take (rowWidth k) xs); spans = numberAt 4 12 (take (rowWidth k) xs) } ≡ rowValue k (take (rowWidth k) xs)
@@ -117,28 +89,65 @@ rows-lent k xs w end ew ee h =
             ∙ sym (take-drop (w * ((end - 16) / w)) 16 xs)
         go (no g) = let z : w * ((end - 16) / w) ≡ 0 = omega (arith, few) in rw z refl
 
+-- ---- what is asked of a row
+
+module _ (r : Row) where
+  pub end-is : r ≡ End → true ≡ isEnd r
+  unfolding isEnd
+  end-is e = rw e refl
+
+  pub above-not : (l : ℕ) → r ≡ End → false ≡ isAbove l r
+  unfolding isAbove
+  above-not l e = rw e refl
+
+  pub number-none : r ≡ End → 0 ≡ numberOf r
+  unfolding numberOf
+  number-none e = rw e refl
+
+  module _ {n s p next : ℕ} (e : r ≡ At n s p next) where
+    pub end-not : false ≡ isEnd r
+    unfolding isEnd
+    end-not = rw e refl
+
+    pub above-is : (l : ℕ) → ltb l n ≡ isAbove l r
+    unfolding isAbove
+    above-is l = rw e refl
+
+    pub number-is : n ≡ numberOf r
+    unfolding numberOf
+    number-is = rw e refl
+
 -- ---- the order of the rows
 
 -- from here on the rows ascend as the whole does
-module _ (w : ℕ) (xs : Bytes) (at last : ℕ) (wide : 12 ≤ w) (whole : Bool) (inv : whole ≡ ascending last (rowsFrom w xs at)) (r : Row) (e : r ≡ rowAt w xs at) where
-  pub order-end : r ≡ End → true ≡ whole
-  unfolding ascending
-  order-end q = sym (inv ∙ rw (rows-none w xs at wide (ends w xs at r e q)) refl)
+module _ (w : ℕ) (xs : Bytes) (at last : ℕ) (wide : 12 ≤ w) (whole : Bool) (inv : whole ≡ ascending last (rowsFrom w xs at)) where
+  module _ (h : isAbove last (rowAt w xs at) ≡ true) where
+    pub above-inside : at + w ≤ length xs
+    unfolding isAbove
+    above-inside = go (decLe (at + w) (length xs))
+      where
+        go : Dec (at + w ≤ length xs) → at + w ≤ length xs
+        go (yes g) = g
+        go (no g) = absurd (false≢true (ap (isAbove last) (sym (row-none w xs at (omega arith))) ∙ h))
 
-  module _ (n s p next : ℕ) (q : r ≡ At n s p next) where
-    it : Stands w xs at n s p next
-    it = stands w xs at r e q
+    pub above-next : whole ≡ ascending (numberOf (rowAt w xs at)) (rowsFrom w xs (at + w))
+    unfolding isAbove numberOf fields ascending
+    above-next =
+        let e = row-whole w xs at above-inside in
+        let t : ltb last (rowNumber (take w (drop at xs))) ≡ true = ap (isAbove last) (sym e) ∙ h in
+        inv ∙ rw (rows-more w xs at wide above-inside, t, e) refl
 
-    turned : whole ≡ (ltb last n && ascending n (rowsFrom w xs next))
-    unfolding ascending
-    turned = inv ∙ rw (rows-more w xs at wide (it .inside), ← it .number, ← it .after) refl
+  pub above-none : isAbove last (rowAt w xs at) ≡ false → isEnd (rowAt w xs at) ≡ whole
+  unfolding isAbove isEnd fields ascending
+  above-none h = go (decLe (at + w) (length xs))
+    where
+      go : Dec (at + w ≤ length xs) → isEnd (rowAt w xs at) ≡ whole
+      go (yes g) =
+          let e = row-whole w xs at g in
+          let t : ltb last (rowNumber (take w (drop at xs))) ≡ false = ap (isAbove last) (sym e) ∙ h in
+          sym (inv ∙ rw (rows-more w xs at wide g, t, e) refl)
+      go (no g) = sym (inv ∙ rw (rows-none w xs at wide (omega arith), row-none w xs at (omega arith)) refl)
 
-    pub order-falls : n ≤ last → false ≡ whole
-    order-falls h = sym (turned ∙ rw (le-ltb last n h) refl)
-
-    pub order-next : last < n → whole ≡ ascending n (rowsFrom w xs next)
-    order-next h = turned ∙ rw (lt-ltb last n h) refl
-
-    -- the place goes up to the rows' end
-    pub order-less : length xs - next < length xs - at
-    order-less = omega (arith, it .inside, it .after)
+-- of the published part, the rows of the area
+pub rows-ascended : (k : Kind) (xs : Bytes) (w end : ℕ) (b : Bool) → w ≡ rowWidth k → end ≡ counted xs → end ≤ length xs → b ≡ ascending 0 (rowsFrom w (take end xs) 16) → b ≡ ascending 0 (rowList k xs)
+rows-ascended k xs w end b ew ee h e = e ∙ ap (ascending 0) (rows-lent k xs w end ew ee h)

@@ -1,9 +1,9 @@
 -- What stands at a place of the published rows (document 01: "one reader over the row area, carrying the next row's place").
 -- The width of a row is a number: 16 where paired, 12 where single.
 use Prim.Native.Nat.{ℕ, _+_, _-_, _/_}
-use mathlib.Core.Bool.{cond}
+use mathlib.Core.Bool.{Bool, true, false, cond}
 use mathlib.Core.List.{List}
-use lib.Dec.{leb}
+use lib.Dec.{leb, ltb}
 use lib.ListN.{length, take, drop}
 use Rattle.loc_leaf.specs.Bytes.{Bytes, numberAt}
 use Rattle.loc_leaf.specs.Area.{pieces}
@@ -22,3 +22,18 @@ rowAt w xs at = cond (leb (at + w) (length xs)) (fields (take w (drop at xs)) (a
 -- the whole rows from a place on
 unfoldable pub rowsFrom : ℕ → Bytes → ℕ → List Bytes
 rowsFrom w xs at = pieces w ((length xs - at) / w) (drop at xs)
+
+-- no row stands there
+unfoldable pub isEnd : Row → Bool
+isEnd (At n s p next) = false
+isEnd End = true
+
+-- one does, numbered above the last one
+unfoldable pub isAbove : ℕ → Row → Bool
+isAbove last (At n s p next) = ltb last n
+isAbove last End = false
+
+-- its number, 0 where there is none
+unfoldable pub numberOf : Row → ℕ
+numberOf (At n s p next) = n
+numberOf End = 0

@@ -2,7 +2,8 @@
 // An inner crate; its functions ask nothing. The width of a row is a number, so that both kinds are read by one code.
 ghost use mathlib.Core.Path.{_≡_};
 ghost use Rattle.loc_leaf.specs.Rows.{rowList, ascending};
-ghost use Rattle.loc_rows.specs.Reader.{rowAt};
+ghost use Prim.Native.Nat.{_+_, _<_, _≤_, _^_};
+ghost use Rattle.loc_rows.specs.Reader.{rowAt, rowsFrom, isEnd, isAbove, numberOf};
 use loc_leaf::Kind;
 use loc_leaf::delta_loc::row_width;
 use loc_leaf::file::FILE_HEADER_LEN;
@@ -67,6 +68,78 @@ pub fn step(rows: &[u8], at: usize, width: usize) -> Row
     here(reader(rows, at), width)
 }
 
+// The reader at the next row's place.
+pub fn onward<'a>(r: RowReader<'a>, width: usize) -> RowReader<'a>
+    requires { ⌜ r .at + width < 2 ^ 64 ⌝ }
+    ensures { λ q. ⌜ (q .rows ≡ r .entry .rows) × (q .at ≡ r .entry .at + width) ⌝ }
+{
+    RowReader {
+        rows: r.rows,
+        at: r.at + width,
+    }
+}
+
+// Whether no row stands there.
+pub fn is_end(row: Row) -> bool
+    ensures { λ r. ⌜ r ≡ isEnd row ⌝ }
+{
+    match row {
+        Row::At {
+            number: _,
+            strides: _,
+            spans: _,
+            next: _,
+        } => false,
+        Row::End => true,
+    }
+}
+
+// Whether a row stands there, numbered above the last one.
+fn is_above(row: Row, last: u64) -> bool
+    ensures { λ r. ⌜ r ≡ isAbove last row ⌝ }
+{
+    match row {
+        Row::At {
+            number,
+            strides: _,
+            spans: _,
+            next: _,
+        } => last < number,
+        Row::End => false,
+    }
+}
+
+// The number of a row, 0 where none stands there.
+fn number_of(row: Row) -> u64
+    ensures { λ r. ⌜ r ≡ numberOf row ⌝ }
+{
+    match row {
+        Row::At {
+            number,
+            strides: _,
+            spans: _,
+            next: _,
+        } => number,
+        Row::End => 0,
+    }
+}
+
+// Whether the rows from a place on are numbered from 1 on, each above the one before. The reader goes from row to row.
+fn ascend(rows: &[u8], from: usize, width: usize) -> bool
+    requires { ⌜ 12 ≤ width ⌝ }
+    ensures { λ r. ⌜ r ≡ ascending 0 (rowsFrom width (now (rows .entry)) from) ⌝ }
+{
+    let mut r = reader(rows, from);
+    let mut row = here(r, width);
+    let mut last: u64 = 0;
+    while is_above(row, last) {
+        last = number_of(row);
+        r = onward(r, width);
+        row = here(r, width);
+    }
+    is_end(row)
+}
+
 // Whether the rows are numbered from 1 on, each above the one before.
 pub fn rows_ascend(kind: Kind, rows: &[u8]) -> bool
     ensures { λ r. ⌜ r ≡ ascending 0 (rowList kind (now (rows .entry))) ⌝ }
@@ -74,25 +147,5 @@ pub fn rows_ascend(kind: Kind, rows: &[u8]) -> bool
     let width = row_width(kind);
     let end = logical_len(rows);
     let published = &rows[..end];
-    let mut at = FILE_HEADER_LEN;
-    let mut last: u64 = 0;
-    loop {
-        match step(published, at, width) {
-            Row::At {
-                number,
-                strides: _,
-                spans: _,
-                next,
-            } => {
-                if number <= last {
-                    return false;
-                }
-                last = number;
-                at = next;
-            }
-            Row::End => {
-                return true;
-            }
-        }
-    }
+    ascend(published, FILE_HEADER_LEN, width)
 }
