@@ -3,11 +3,12 @@
 use Prim.Native.Nat.{ℕ, zero, suc, _+_, _-_, _*_, _/_, _%_, _^_, _≤_, _<_}
 use mathlib.Core.Path.{_≡_, refl, sym, ap, _∙_, subst}
 use mathlib.Core.Logic.{_⊎_, inl, inr, ⊎-elim}
-use mathlib.Core.Bool.{Bool, true, false, cond, _&&_, and-false}
+use mathlib.Core.Bool.{Bool, true, false, cond, _&&_, and-false, false≢true}
 use mathlib.Core.List.{List}
 use native.Mathlib.Nat.{zero-add, add-zero, eq-or-lt-of-le, not-suc-le-zero, le-of-suc-le-suc}
 use native.Mathlib.Numerals.{add-one}
 use native.Mathlib.Omega.{arith}
+use native.Mathlib.Decide.{decLe}
 use lib.Dec.{ltb, eqb}
 use lib.ListN.{length, take}
 use borrow.Author.Tests.{lt-ltb, le-ltb, le-leb, ltb-true, ltb-false, eqb-true, eqb-false}
@@ -26,12 +27,12 @@ use Rattle.loc_calls.specs.Areas.{Areas, areas, count}
 use Rattle.loc_calls.specs.Reading.{sumAfter, allAfter, lookupAt, has, valueAt, stridesAfter, spansAfter, windowEnd}
 use Rattle.loc_calls.specs.Audit.{bodyEndAfter, spanEndAfter, bothEnds, checkpointSound, rowFits, rowWanted, rowsSound, sound}
 use Rattle.loc_rows.specs.declared.Row.{Row}
-use Rattle.loc_rows.specs.Reader.{rowAt, rowsFrom}
-use Rattle.loc_rows.proofs.ReaderLaws.{rows-lent}
+use Rattle.loc_rows.specs.Reader.{rowAt, rowsFrom, isEnd}
+use Rattle.loc_rows.proofs.ReaderLaws.{row-none, rows-lent}
 use Rattle.loc_audit.specs.declared.Ends.{Ends}
 use Rattle.loc_audit.specs.declared.Step.{Step}
 use Rattle.loc_audit.specs.declared.Step.the-variants.{Next, Unsound}
-use Rattle.loc_audit.specs.Pass.{nextRow, isEnd, slotSays, added, valued, recordStep, checkpointIs, checkpointHolds, tested, auditStep, Auditable}
+use Rattle.loc_audit.specs.Pass.{isOwn, placeAfter, slotSays, added, valued, recordStep, checkpointIs, checkpointHolds, tested, endsAfter, auditStep, begin, goesOn, isSound, Auditable, Lent, Judges}
 use Rattle.loc_audit.proofs.RowPassLaws.{Left, ownWanted, soundFrom, Turn, turn, rows-left}
 
 -- ---- over the numbers from 1 on
@@ -154,28 +155,25 @@ module _ (k : Kind) (a : Areas) (n : ℕ) (v : Value) (e : lookupAt k a (suc n) 
 
 -- ---- the pass
 
--- n records are passed, and these are the ends
-pub record Passed (k : Kind) (a : Areas) (xs : Bytes) (n : ℕ) (e : Ends) : Type 0 where
+-- n records are passed, the reader stands at this place, and these are the ends
+pub record Passed (k : Kind) (a : Areas) (xs : Bytes) (n at : ℕ) (e : Ends) : Type 0 where
   pub complete : allAfter (λ i. has (lookupAt k a i)) 0 n ≡ true
   pub checked : allAfter (checkpointSound k a) 0 (n / 1024) ≡ true
   pub isBody : e .body ≡ bodyEndAfter k a n
   pub isSpan : e .span ≡ spanEndAfter k a n
   pub bodyLow : e .body < 2 ^ 64
   pub spanLow : e .span < 2 ^ 64
-  pub at : ℕ
-  pub stands : e .row ≡ rowAt (rowWidth k) xs at
   pub left : Left k (rowList k (a .rows)) xs n at
   pub rest : rowsSound k a (rowList k (a .rows)) ≡ soundFrom k a xs at
 
--- a step to n records, or the index is unsound
-abbrev pub Stepped : Kind → Areas → Bytes → ℕ → Step → Type 0
-Stepped k a xs n (Next e) = Passed k a xs n e
-Stepped k a xs n Unsound = sound k a ≡ false
+-- n records are passed, or the index is unsound
+abbrev pub Stepped : Kind → Areas → Bytes → ℕ → ℕ → Step → Type 0
+Stepped k a xs n at (Next e) = Passed k a xs n at e
+Stepped k a xs n at Unsound = sound k a ≡ false
 
-pub pass-begins : (k : Kind) (a : Areas) (end : ℕ) → Auditable k a → end ≡ counted (a .rows) → end ≤ length (a .rows)
-    → (row : Row) → row ≡ rowAt (rowWidth k) (take end (a .rows)) 16 → Passed k a (take end (a .rows)) 0 (record { body = 16; span = 16; row = row })
+pass-begins : (k : Kind) (a : Areas) (end : ℕ) → Auditable k a → end ≡ counted (a .rows) → end ≤ length (a .rows) → Passed k a (take end (a .rows)) 0 16 (record { body = 16; span = 16 })
 unfolding allAfter bodyEndAfter spanEndAfter stridesAfter spansAfter sumAfter
-pass-begins k a end g e h row er =
+pass-begins k a end g e h =
     record {
       complete = refl;
       checked = refl;
@@ -183,8 +181,6 @@ pass-begins k a end g e h row er =
       isSpan = refl;
       bodyLow = omega arith;
       spanLow = omega arith;
-      at = 16;
-      stands = er;
       left = record { same = λ id l. ap (lookup k id) (sym lent); rise = ap (ascending 0) lent ∙ g .ascend };
       rest = ap (rowsSound k a) (sym lent);
     }
@@ -192,12 +188,12 @@ pass-begins k a end g e h row er =
     lent : rowsFrom (rowWidth k) (take end (a .rows)) 16 ≡ rowList k (a .rows)
     lent = rows-lent k (a .rows) (rowWidth k) end refl e h
 
-pub pass-ends : (k : Kind) (a : Areas) (xs : Bytes) (n : ℕ) (e : Ends) → Auditable k a → n ≡ count a → Passed k a xs n e → sound k a ≡ isEnd (e .row)
+pass-ends : (k : Kind) (a : Areas) (xs : Bytes) (n at : ℕ) (e : Ends) → Auditable k a → n ≡ count a → Passed k a xs n at e → sound k a ≡ isEnd (rowAt (rowWidth k) xs at)
 unfolding sound
-pass-ends k a xs n e g q w =
+pass-ends k a xs n at e g q w =
     rw (
       g .checkpointed,
-      w .rest ∙ rows-left k a (rowList k (a .rows)) xs (w .at) (subst (λ (i : ℕ). Left k (rowList k (a .rows)) xs i (w .at)) q (w .left)) ∙ ap isEnd (sym (w .stands)),
+      w .rest ∙ rows-left k a (rowList k (a .rows)) xs at (subst (λ (i : ℕ). Left k (rowList k (a .rows)) xs i at) q (w .left)),
       ← q,
       w .complete,
       w .checked,
@@ -218,31 +214,34 @@ checkpoint-is : (k : Kind) (a : Areas) (w : ℕ) (e : Ends) → e .body ≡ body
 unfolding checkpointSound windowEnd checkpointIs
 checkpoint-is k a w e eb es h = rw (le-leb (1024 * suc w) (count a) h, eb, es) refl
 
-module _ (k : Kind) (a : Areas) (xs : Bytes) (n : ℕ) (e : Ends) (g : Auditable k a) (h : n < count a) (w : Passed k a xs n e) where
+module _ (k : Kind) (a : Areas) (xs : Bytes) (n at : ℕ) (e : Ends) (g : Auditable k a) (h : n < count a) (w : Passed k a xs n at e) where
   abbrev rs : List Bytes
   rs = rowList k (a .rows)
 
   abbrev slot : Bytes
   slot = slotAt (a .slots) (suc n)
 
-  there : Turn k a rs xs n (w .at) h (w .left) (e .row)
-  there = rw (w .stands) (turn k a rs xs n (w .at) h (w .left))
+  abbrev row : Row
+  row = rowAt (rowWidth k) xs at
 
-  abbrev next : Row
-  next = nextRow xs (rowWidth k) (e .row) (suc n)
+  abbrev next : ℕ
+  next = placeAfter (rowWidth k) row (suc n) at
+
+  there : Turn k a rs xs n at h (w .left) row next
+  there = turn k a rs xs n at h (w .left)
 
   -- the row at the reader's place is the one that loc_calls looks up
-  looks : recordStep k (a .slots) xs (suc n) e ≡ valued e next (slotSays k slot (lookup k (suc n) rs))
+  looks : recordStep k (a .slots) (suc n) row e ≡ valued e (slotSays k slot (lookup k (suc n) rs))
   unfolding recordStep
-  looks = ap (λ (l : Lookup). valued e next (slotSays k slot l)) (there .own)
+  looks = ap (λ (l : Lookup). valued e (slotSays k slot l)) (there .own)
 
   -- with it, what is left to test of the rows
-  rests : (l : Lookup) → lookup k (suc n) rs ≡ l → rowsSound k a rs ≡ (ownWanted k slot l && soundFrom k a xs (there .next))
-  rests l q = w .rest ∙ there .rest ∙ ap (λ (x : Lookup). ownWanted k slot x && soundFrom k a xs (there .next)) q
+  rests : (l : Lookup) → lookup k (suc n) rs ≡ l → rowsSound k a rs ≡ (ownWanted k slot l && soundFrom k a xs next)
+  rests l q = w .rest ∙ there .rest ∙ ap (λ (x : Lookup). ownWanted k slot x && soundFrom k a xs next) q
 
-  module _ (v : Value) (found : lookupAt k a (suc n) ≡ Found v) (on : rowsSound k a rs ≡ soundFrom k a xs (there .next)) where
+  module _ (v : Value) (found : lookupAt k a (suc n) ≡ Found v) (on : rowsSound k a rs ≡ soundFrom k a xs next) where
     abbrev after : Ends
-    after = record { body = e .body + 8 * v .strides; span = e .span + 8 * v .spans; row = next }
+    after = record { body = e .body + 8 * v .strides; span = e .span + 8 * v .spans }
 
     body-is : e .body + 8 * v .strides ≡ bodyEndAfter k a (suc n)
     body-is = omega (arith, w .isBody, body-more k a n v found)
@@ -284,12 +283,12 @@ module _ (k : Kind) (a : Areas) (xs : Bytes) (n : ℕ) (e : Ends) (g : Auditable
             (checkpoint-is k a (n / 1024) after (rw o body-is) (rw o span-is) (omega arith) ∙ ap (λ (i : ℕ). checkpointIs k (a .checkpoints) i after) (sym q) ∙ u)
         go (inr z) = let u : true ≡ false = rw z at t in cc
 
-    goes-on : e .body + 8 * v .strides < 2 ^ 64 → e .span + 8 * v .spans < 2 ^ 64 → Stepped k a xs (suc n) (tested k (a .checkpoints) (suc n) (Next after))
+    goes-on : e .body + 8 * v .strides < 2 ^ 64 → e .span + 8 * v .spans < 2 ^ 64 → Stepped k a xs (suc n) next (tested k (a .checkpoints) (suc n) (Next after))
     unfolding tested has
     goes-on hb hs = go (is? (checkpointHolds k (a .checkpoints) (suc n) after))
       where
         go : (checkpointHolds k (a .checkpoints) (suc n) after ≡ true) ⊎ (checkpointHolds k (a .checkpoints) (suc n) after ≡ false)
-            → Stepped k a xs (suc n) (cond (checkpointHolds k (a .checkpoints) (suc n) after) (Next after) Unsound)
+            → Stepped k a xs (suc n) next (cond (checkpointHolds k (a .checkpoints) (suc n) after) (Next after) Unsound)
         go (inl t) =
             rw t
             (record {
@@ -299,8 +298,6 @@ module _ (k : Kind) (a : Areas) (xs : Bytes) (n : ℕ) (e : Ends) (g : Auditable
               isSpan = span-is;
               bodyLow = hb;
               spanLow = hs;
-              at = there .next;
-              stands = there .stands;
               left = there .left;
               rest = on;
             })
@@ -314,70 +311,101 @@ module _ (k : Kind) (a : Areas) (xs : Bytes) (n : ℕ) (e : Ends) (g : Auditable
         go Paired q = unsound-span k a n h q (omega (arith, span-is))
         go Single q = absurd (omega (arith, w .spanLow, single-spans a (suc n) v (sym (ap (λ (j : Kind). lookupAt j a (suc n)) q) ∙ found)))
 
-    adds : Stepped k a xs (suc n) (tested k (a .checkpoints) (suc n) (added e v next))
+    adds : Stepped k a xs (suc n) next (tested k (a .checkpoints) (suc n) (added e v))
     unfolding added tested
     adds = go (is? (ltb (e .body + 8 * v .strides) (2 ^ 64))) (is? (ltb (e .span + 8 * v .spans) (2 ^ 64)))
       where
         go : (ltb (e .body + 8 * v .strides) (2 ^ 64) ≡ true) ⊎ (ltb (e .body + 8 * v .strides) (2 ^ 64) ≡ false)
             → (ltb (e .span + 8 * v .spans) (2 ^ 64) ≡ true) ⊎ (ltb (e .span + 8 * v .spans) (2 ^ 64) ≡ false)
-            → Stepped k a xs (suc n) (tested k (a .checkpoints) (suc n) (cond (ltb (e .body + 8 * v .strides) (2 ^ 64) && ltb (e .span + 8 * v .spans) (2 ^ 64)) (Next after) Unsound))
+            → Stepped k a xs (suc n) next (tested k (a .checkpoints) (suc n) (cond (ltb (e .body + 8 * v .strides) (2 ^ 64) && ltb (e .span + 8 * v .spans) (2 ^ 64)) (Next after) Unsound))
         go (inl b) (inl s) = rw (b, s) (goes-on (ltb-true _ _ b) (ltb-true _ _ s))
         go (inl b) (inr s) = rw (b, s) (spans-past (ltb-false _ _ s))
         go (inr b) _ = rw b (unsound-body k a n h (omega (arith, ltb-false (e .body + 8 * v .strides) (2 ^ 64) b, body-is)))
 
   -- the record has a row: it is wanted, or the index is unsound
-  by-row : (v : Value) → lookup k (suc n) rs ≡ Found v → Stepped k a xs (suc n) (tested k (a .checkpoints) (suc n) (valued e next (slotSays k slot (Found v))))
+  by-row : (v : Value) → lookup k (suc n) rs ≡ Found v → Stepped k a xs (suc n) next (tested k (a .checkpoints) (suc n) (valued e (slotSays k slot (Found v))))
   unfolding valued tested slotSays lookupAt slotValue rowWanted ownWanted
   by-row v q = go (is? (needsRow k slot)) (is? (rowFits k slot v))
     where
       go : (needsRow k slot ≡ true) ⊎ (needsRow k slot ≡ false) → (rowFits k slot v ≡ true) ⊎ (rowFits k slot v ≡ false)
-          → Stepped k a xs (suc n) (tested k (a .checkpoints) (suc n) (valued e next (cond (needsRow k slot && rowFits k slot v) (Found v) Missing)))
+          → Stepped k a xs (suc n) next (tested k (a .checkpoints) (suc n) (valued e (cond (needsRow k slot && rowFits k slot v) (Found v) Missing)))
       go (inl t) (inl f) = rw (t, f) (adds v (rw (t, q) refl) (rests (Found v) q ∙ rw (t, f) refl))
       go (inl t) (inr f) = rw (t, f) (unsound-rows k a (rests (Found v) q ∙ rw (t, f) refl))
       go (inr t) _ = rw t (unsound-rows k a (rests (Found v) q ∙ rw t refl))
 
   -- it has none: its slot needs none, or the index is unsound
-  by-slot : lookup k (suc n) rs ≡ Missing → Stepped k a xs (suc n) (tested k (a .checkpoints) (suc n) (valued e next (slotSays k slot Missing)))
+  by-slot : lookup k (suc n) rs ≡ Missing → Stepped k a xs (suc n) next (tested k (a .checkpoints) (suc n) (valued e (slotSays k slot Missing)))
   unfolding valued tested slotSays lookupAt slotValue ownWanted
   by-slot q = go (is? (needsRow k slot))
     where
       go : (needsRow k slot ≡ true) ⊎ (needsRow k slot ≡ false)
-          → Stepped k a xs (suc n) (tested k (a .checkpoints) (suc n) (valued e next (cond (needsRow k slot) Missing (Found (inline k slot)))))
+          → Stepped k a xs (suc n) next (tested k (a .checkpoints) (suc n) (valued e (cond (needsRow k slot) Missing (Found (inline k slot)))))
       go (inl t) = rw t (unsound-row k a n h (rw (t, q) refl))
       go (inr t) = rw t (adds (inline k slot) (rw t refl) (rests Missing q))
 
-  pub pass-turn : Stepped k a xs (suc n) (auditStep k (a .slots) xs (a .checkpoints) (suc n) e)
-  unfolding auditStep
+  pass-turn : Stepped k a xs (suc n) next (endsAfter k (a .slots) (a .checkpoints) (suc n) row e)
+  unfolding endsAfter
   pass-turn = rw looks (go (lookup k (suc n) rs) refl)
     where
-      go : (l : Lookup) → lookup k (suc n) rs ≡ l → Stepped k a xs (suc n) (tested k (a .checkpoints) (suc n) (valued e next (slotSays k slot l)))
+      go : (l : Lookup) → lookup k (suc n) rs ≡ l → Stepped k a xs (suc n) next (tested k (a .checkpoints) (suc n) (valued e (slotSays k slot l)))
       go (Found v) q = by-row v q
       go Missing q = by-slot q
 
 -- ---- the loop
 
 -- the invariant: the records up to n are passed
-pub record Passing (k : Kind) (s r c xs : Bytes) (m n : ℕ) (e : Ends) : Type 0 where
+pub record Passing (k : Kind) (s r c xs : Bytes) (m n at : ℕ) (q : Step) : Type 0 where
   pub inside : n ≤ m
-  pub passed : Passed k (areas s r c) xs n e
+  pub stepped : Stepped k (areas s r c) xs n at q
 
-module _ (k : Kind) (s r c : Bytes) (g : Auditable k (areas s r c)) (m : ℕ) (em : m ≡ fill 2 s) where
-  pub passing-begins : (end : ℕ) → end ≡ counted r → end ≤ length r → (w : ℕ) → w ≡ rowWidth k → (row : Row) → row ≡ rowAt w (take end r) 16
-      → Passing k s r c (take end r) m 0 (record { body = 16; span = 16; row = row })
-  passing-begins end e h w ew row er = record { inside = omega arith; passed = pass-begins k (areas s r c) end g e h row (rw (← ew) er) }
+module _ (k : Kind) (s r c xs : Bytes) (m : ℕ) (g : Lent k s r c xs m) where
+  pub passing-begins : Passing k s r c xs m 0 16 begin
+  unfolding begin
+  passing-begins = record { inside = omega arith; stepped = rw (g .isPublished) (pass-begins k (areas s r c) (counted r) (g .auditable) refl (g .inside)) }
 
-  module _ (xs : Bytes) (n : ℕ) (e : Ends) (w : Passing k s r c xs m n e) where
-    module _ (h : n < m) (q : Step) (eq : q ≡ auditStep k s xs c (n + 1) e) where
-      stepped : Stepped k (areas s r c) xs (n + 1) q
-      unfolding count
-      stepped = rw (eq, add-one n) (pass-turn k (areas s r c) xs n e g (omega arith) (w .passed))
+  module _ (n at : ℕ) where
+    module _ (w : ℕ) (ew : w ≡ rowWidth k) (row : Row) (er : row ≡ rowAt w xs at) where
+      there-is : row ≡ rowAt (rowWidth k) xs at
+      there-is = rw (← ew) er
 
-      pub passing-next : (t : Ends) → q ≡ Next t → Passing k s r c xs m (n + 1) t
-      passing-next t p = record { inside = omega arith; passed = subst (Stepped k (areas s r c) xs (n + 1)) p stepped }
+      pub passing-next : (q : Step) → Passing k s r c xs m n at q → goesOn q n m ≡ true → (q′ : Step) → q′ ≡ auditStep k s c (n + 1) row q → (at′ : ℕ) → at′ ≡ placeAfter w row (n + 1) at → Passing k s r c xs m (n + 1) at′ q′
+      unfolding goesOn auditStep count
+      passing-next (Next e) p t q′ eq at′ ea =
+          let h : n < m = ltb-true n m t in
+          record { inside = omega arith; stepped = rw (eq, ea, ew, there-is, add-one n) (pass-turn k (areas s r c) xs n at e (g .auditable) (omega (arith, g .isCount)) (p .stepped)) }
+      passing-next Unsound p t q′ eq at′ ea = absurd (false≢true t)
 
-      pub passing-stops : q ≡ Unsound → false ≡ sound k (areas s r c)
-      passing-stops p = sym (subst (Stepped k (areas s r c) xs (n + 1)) p stepped)
+      pub passing-ends : (q : Step) → Passing k s r c xs m n at q → goesOn q n m ≡ false → (b : Bool) → b ≡ isSound q row → b ≡ sound k (areas s r c)
+      unfolding goesOn isSound count
+      passing-ends (Next e) p t b eb =
+          let h : m ≤ n = ltb-false n m t in
+          eb ∙ ap isEnd there-is ∙ sym (pass-ends k (areas s r c) xs n at e (g .auditable) (omega (arith, g .isCount, p .inside)) (p .stepped))
+      passing-ends Unsound p t b eb = eb ∙ sym (p .stepped)
 
-    pub passing-ends : m ≤ n → (b : Bool) → b ≡ isEnd (e .row) → b ≡ sound k (areas s r c)
-    unfolding count
-    passing-ends h b eb = eb ∙ sym (pass-ends k (areas s r c) xs n e g (omega (arith, w .inside)) (w .passed))
+-- a record follows only below the count
+pub goes-below : (q : Step) (n m : ℕ) → goesOn q n m ≡ true → n < m
+unfolding goesOn
+goes-below (Next e) n m t = ltb-true n m t
+goes-below Unsound n m t = absurd (false≢true t)
+
+-- the reader moves past a record's own row, which stands there whole, and stays else
+module _ (w at id : ℕ) (row : Row) where
+  pub place-own : isOwn row id ≡ true → at + w ≡ placeAfter w row id at
+  unfolding placeAfter
+  place-own t = rw t refl
+
+  pub place-same : isOwn row id ≡ false → at ≡ placeAfter w row id at
+  unfolding placeAfter
+  place-same t = rw t refl
+
+  pub own-inside : (xs : Bytes) → row ≡ rowAt w xs at → isOwn row id ≡ true → at + w ≤ length xs
+  unfolding isOwn
+  own-inside xs e t = go (decLe (at + w) (length xs))
+    where
+      go : Dec (at + w ≤ length xs) → at + w ≤ length xs
+      go (yes h) = h
+      go (no h) = absurd (false≢true (ap (λ (x : Row). isOwn x id) (sym (e ∙ row-none w xs at (omega arith))) ∙ t))
+
+-- what it is lent of areas that can be audited
+pub judged : (k : Kind) (s r c : Bytes) (end m : ℕ) (b : Bool) → Auditable k (areas s r c) → end ≡ counted r → end ≤ length r → m ≡ fill 2 s → Judges k s (take end r) c m b → b ≡ sound k (areas s r c)
+judged k s r c end m b g e h em j = j r (record { auditable = g; isPublished = ap (λ (i : ℕ). take i r) e; inside = omega arith; isCount = em })

@@ -25,9 +25,9 @@ use Rattle.loc_calls.specs.Reading.{within}
 use Rattle.loc_calls.specs.Audit.{rowWanted, rowSound, rowsSound}
 use Rattle.loc_rows.specs.declared.Row.{Row}
 use Rattle.loc_rows.specs.declared.Row.the-variants.{End}
-use Rattle.loc_rows.specs.Reader.{fields, rowAt, rowsFrom}
+use Rattle.loc_rows.specs.Reader.{fields, rowAt, rowsFrom, isEnd}
 use Rattle.loc_rows.proofs.ReaderLaws.{row-none, row-whole, row-value, rows-more, rows-none}
-use Rattle.loc_audit.specs.Pass.{ownRow, nextRow, isEnd}
+use Rattle.loc_audit.specs.Pass.{ownRow, isOwn, placeAfter}
 
 -- ---- a list of rows
 
@@ -87,10 +87,8 @@ soundFrom k a xs at = rowsSound k a (rowsFrom (rowWidth k) xs at)
 
 module _ (k : Kind) (a : Areas) (rs : List Bytes) (xs : Bytes) (n at : ℕ) (inside : n < count a) (w : Left k rs xs n at) where
   -- what one record more finds, where the reader then stands, and what is left to test of the rows
-  pub record Turn (row : Row) : Type 0 where
+  pub record Turn (row : Row) (next : ℕ) : Type 0 where
     pub own : ownRow row (suc n) ≡ lookup k (suc n) rs
-    pub next : ℕ
-    pub stands : nextRow xs (rowWidth k) row (suc n) ≡ rowAt (rowWidth k) xs next
     pub left : Left k rs xs (suc n) next
     pub rest : soundFrom k a xs at ≡ (ownWanted k (slotAt (a .slots) (suc n)) (lookup k (suc n) rs) && soundFrom k a xs next)
 
@@ -99,13 +97,11 @@ module _ (k : Kind) (a : Areas) (rs : List Bytes) (xs : Bytes) (n at : ℕ) (ins
   unfolding ownWanted
   none-own q = rw q refl
 
-  at-end : length xs < at + rowWidth k → Turn End
-  unfolding ownRow nextRow ascending
+  at-end : length xs < at + rowWidth k → Turn End at
+  unfolding ownRow ascending
   at-end h =
       record {
         own = sym lacks;
-        next = at;
-        stands = sym (row-none (rowWidth k) xs at h);
         left = record { same = λ id g. w .same id (omega arith); rise = rw none refl };
         rest = none-own lacks;
       }
@@ -130,13 +126,11 @@ module _ (k : Kind) (a : Areas) (rs : List Bytes) (xs : Bytes) (n at : ℕ) (ins
     rises = sym (ap (ascending n) more) ∙ w .rise
 
     -- the record's own row
-    at-own : rowNumber here ≡ suc n → Turn (fields here (at + rowWidth k))
-    unfolding fields ownRow nextRow ownWanted rowsSound rowSound within
+    at-own : rowNumber here ≡ suc n → Turn (fields here) (at + rowWidth k)
+    unfolding fields ownRow ownWanted rowsSound rowSound within
     at-own e =
         record {
           own = rw (eq-eqb (rowNumber here) (suc n) e) (ap (λ (v : Value). Found v) (row-value k (drop at xs)) ∙ sym has-it);
-          next = at + rowWidth k;
-          stands = rw (eq-eqb (rowNumber here) (suc n) e) refl;
           left = record {
             same = λ id g. w .same id (omega arith) ∙ ap (lookup k id) more ∙ lookup-later k id here others (λ q. omega arith);
             rise = subst (λ (i : ℕ). ascending i others ≡ true) e (rest-ascends n here others rises);
@@ -148,13 +142,11 @@ module _ (k : Kind) (a : Areas) (rs : List Bytes) (xs : Bytes) (n at : ℕ) (ins
         has-it = w .same (suc n) (omega arith) ∙ ap (lookup k (suc n)) more ∙ lookup-first k (suc n) here others e
 
     -- a later record's, at which the reader stays
-    at-other : (rowNumber here ≡ suc n → ⊥) → Turn (fields here (at + rowWidth k))
-    unfolding fields ownRow nextRow
+    at-other : (rowNumber here ≡ suc n → ⊥) → Turn (fields here) at
+    unfolding fields ownRow
     at-other e =
         record {
           own = rw (ne-eqb (rowNumber here) (suc n) e) (sym lacks);
-          next = at;
-          stands = rw (ne-eqb (rowNumber here) (suc n) e) (sym (row-whole (rowWidth k) xs at h));
           left = record { same = λ id g. w .same id (omega arith); rise = ap (ascending (suc n)) more ∙ rise };
           rest = none-own lacks;
         }
@@ -168,15 +160,19 @@ module _ (k : Kind) (a : Areas) (rs : List Bytes) (xs : Bytes) (n at : ℕ) (ins
         lacks : lookup k (suc n) rs ≡ Missing
         lacks = w .same (suc n) (omega arith) ∙ ap (lookup k (suc n)) more ∙ none-above k (suc n) (suc n) (here ∷ others) (omega arith) rise
 
-  pub turn : Turn (rowAt (rowWidth k) xs at)
+  abbrev After : Row → Type 0
+  After row = Turn row (placeAfter (rowWidth k) row (suc n) at)
+
+  pub turn : After (rowAt (rowWidth k) xs at)
+  unfolding placeAfter isOwn fields
   turn = go (decLe (at + rowWidth k) (length xs))
     where
-      go : Dec (at + rowWidth k ≤ length xs) → Turn (rowAt (rowWidth k) xs at)
+      go : Dec (at + rowWidth k ≤ length xs) → After (rowAt (rowWidth k) xs at)
       go (yes h) = rw (row-whole (rowWidth k) xs at h) (by (is? (eqb (rowNumber (here h)) (suc n))))
         where
-          by : (eqb (rowNumber (here h)) (suc n) ≡ true) ⊎ (eqb (rowNumber (here h)) (suc n) ≡ false) → Turn (fields (here h) (at + rowWidth k))
-          by (inl t) = at-own h (eqb-true (rowNumber (here h)) (suc n) t)
-          by (inr t) = at-other h (eqb-false (rowNumber (here h)) (suc n) t)
+          by : (eqb (rowNumber (here h)) (suc n) ≡ true) ⊎ (eqb (rowNumber (here h)) (suc n) ≡ false) → After (fields (here h))
+          by (inl t) = rw t (at-own h (eqb-true (rowNumber (here h)) (suc n) t))
+          by (inr t) = rw t (at-other h (eqb-false (rowNumber (here h)) (suc n) t))
       go (no h) = rw (row-none (rowWidth k) xs at (omega arith)) (at-end (omega arith))
 
 -- ---- after the last record

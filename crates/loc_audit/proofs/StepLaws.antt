@@ -6,7 +6,7 @@ use mathlib.Core.Bool.{Bool, true, false}
 use mathlib.Core.List.{[], _∷_}
 use native.Mathlib.Omega.{arith}
 use native.Mathlib.Decide.{decLe}
-use lib.Dec.{leb, eqb}
+use lib.Dec.{leb, ltb, eqb}
 use lib.ListN.{take, drop}
 use lib.Seq.{drop-drop}
 use borrow.Author.Tests.{lt-ltb, le-ltb, eq-eqb, ne-eqb}
@@ -16,59 +16,45 @@ use Rattle.loc_leaf.specs.declared.Value.{Value}
 use Rattle.loc_leaf.specs.declared.delta_loc.Lookup.{Lookup}
 use Rattle.loc_leaf.specs.declared.delta_loc.Lookup.the-variants.{Found, Missing}
 use Rattle.loc_leaf.specs.Bytes.{Bytes, byte, number, numberAt}
-use Rattle.loc_leaf.specs.Kind.{rowWidth, checkpointWidth}
+use Rattle.loc_leaf.specs.Kind.{checkpointWidth}
 use Rattle.loc_leaf.specs.Slot.{needsRow, inline, slotAt}
 use Rattle.loc_leaf.proofs.RowLaws.{field-in}
 use Rattle.loc_calls.specs.Reading.{checkpointAt}
 use Rattle.loc_calls.specs.Audit.{byteFits, rowFits, rowWanted}
 use Rattle.loc_rows.specs.declared.Row.{Row}
 use Rattle.loc_rows.specs.declared.Row.the-variants.{At, End}
-use Rattle.loc_rows.specs.Reader.{rowAt}
+use Rattle.loc_rows.specs.Reader.{isEnd}
 use Rattle.loc_audit.specs.declared.Ends.{Ends}
 use Rattle.loc_audit.specs.declared.Sum.{Sum}
 use Rattle.loc_audit.specs.declared.Sum.the-variants.{Below, Past}
 use Rattle.loc_audit.specs.declared.Step.{Step}
 use Rattle.loc_audit.specs.declared.Step.the-variants.{Next, Unsound}
-use Rattle.loc_audit.specs.Pass.{ownRow, nextRow, isEnd, slotSays, endAfter, added, valued, recordStep, checkpointIs, checkpointHolds, tested, auditStep}
+use Rattle.loc_audit.specs.Pass.{ownRow, isOwn, slotSays, endAfter, added, valued, recordStep, checkpointIs, checkpointHolds, tested, endsAfter, auditStep, begin, goesOn, isSound}
 
 -- ---- the row at the reader's place
 
-module _ (row : Row) where
-  module _ (n s p next : ℕ) (e : row ≡ At n s p next) where
-    pub end-not : false ≡ isEnd row
-    unfolding isEnd
-    end-not = rw e refl
+module _ (row : Row) (id : ℕ) where
+  module _ (n s p : ℕ) (e : row ≡ At n s p) where
+    pub own-found : n ≡ id → Found (record { strides = s; spans = p }) ≡ ownRow row id
+    unfolding ownRow
+    own-found h = rw (e, eq-eqb n id h) refl
 
-    module _ (id : ℕ) where
-      pub own-found : n ≡ id → Found (record { strides = s; spans = p }) ≡ ownRow row id
-      unfolding ownRow
-      own-found h = rw (e, eq-eqb n id h) refl
+    pub own-other : (n ≡ id → ⊥) → Missing ≡ ownRow row id
+    unfolding ownRow
+    own-other h = rw (e, ne-eqb n id h) refl
 
-      pub own-other : (n ≡ id → ⊥) → Missing ≡ ownRow row id
-      unfolding ownRow
-      own-other h = rw (e, ne-eqb n id h) refl
-
-      module _ (rows : Bytes) (w : ℕ) where
-        pub next-own : n ≡ id → (r : Row) → r ≡ rowAt w rows next → r ≡ nextRow rows w row id
-        unfolding nextRow
-        next-own h r er = rw (e, eq-eqb n id h) er
-
-        pub next-other : (n ≡ id → ⊥) → At n s p next ≡ nextRow rows w row id
-        unfolding nextRow
-        next-other h = rw (e, ne-eqb n id h) refl
+    pub is-own-row : eqb n id ≡ isOwn row id
+    unfolding isOwn
+    is-own-row = rw e refl
 
   module _ (e : row ≡ End) where
-    pub end-is : true ≡ isEnd row
-    unfolding isEnd
-    end-is = rw e refl
-
-    pub own-end : (id : ℕ) → Missing ≡ ownRow row id
+    pub own-end : Missing ≡ ownRow row id
     unfolding ownRow
-    own-end id = rw e refl
+    own-end = rw e refl
 
-    pub next-end : (rows : Bytes) (w id : ℕ) → End ≡ nextRow rows w row id
-    unfolding nextRow
-    next-end rows w id = rw e refl
+    pub is-own-end : false ≡ isOwn row id
+    unfolding isOwn
+    is-own-end = rw e refl
 
 -- ---- the slot
 
@@ -177,18 +163,18 @@ module _ (end units : ℕ) (r : Sum) (e : r ≡ endAfter end units) where
       go (yes h) = h
       go (no h) = let i = lt-ltb (end + 8 * units) (2 ^ 64) (omega arith) in let z : _≡_ {A = ℕ} 0 1 = cc in absurd (zero-one z)
 
-module _ (e : Ends) (v : Value) (row : Row) (b : Sum) (eb : b ≡ endAfter (e .body) (v .strides)) where
-  pub add-body-past : b ≡ Past → Unsound ≡ added e v row
+module _ (e : Ends) (v : Value) (b : Sum) (eb : b ≡ endAfter (e .body) (v .strides)) where
+  pub add-body-past : b ≡ Past → Unsound ≡ added e v
   unfolding added
   add-body-past h = rw (le-ltb (e .body + 8 * v .strides) (2 ^ 64) (past-is (e .body) (v .strides) b eb h)) refl
 
   module _ (x : ℕ) (h : b ≡ Below x) (d : Sum) (ed : d ≡ endAfter (e .span) (v .spans)) where
-    pub add-span-past : d ≡ Past → Unsound ≡ added e v row
+    pub add-span-past : d ≡ Past → Unsound ≡ added e v
     unfolding added
     add-span-past g =
         rw (lt-ltb (e .body + 8 * v .strides) (2 ^ 64) (below-is (e .body) (v .strides) b eb x h .1), le-ltb (e .span + 8 * v .spans) (2 ^ 64) (past-is (e .span) (v .spans) d ed g)) refl
 
-    pub add-both : (y : ℕ) → d ≡ Below y → Next (record { body = x; span = y; row = row }) ≡ added e v row
+    pub add-both : (y : ℕ) → d ≡ Below y → Next (record { body = x; span = y }) ≡ added e v
     unfolding added
     add-both y g =
         let p = below-is (e .body) (v .strides) b eb x h in
@@ -197,17 +183,16 @@ module _ (e : Ends) (v : Value) (row : Row) (b : Sum) (eb : b ≡ endAfter (e .b
 
 -- ---- one record
 
-module _ (k : Kind) (slots rows : Bytes) (id : ℕ) (e : Ends) (own : Lookup) (eo : own ≡ ownRow (e .row) id) (found : Lookup) (ef : found ≡ slotSays k (slotAt slots id) own) where
-  by-row : recordStep k slots rows id e ≡ valued e (nextRow rows (rowWidth k) (e .row) id) found
+module _ (k : Kind) (slots : Bytes) (id : ℕ) (row : Row) (e : Ends) (own : Lookup) (eo : own ≡ ownRow row id) (found : Lookup) (ef : found ≡ slotSays k (slotAt slots id) own) where
+  by-row : recordStep k slots id row e ≡ valued e found
   unfolding recordStep
   by-row = rw (← eo, ← ef) refl
 
-  pub record-found : (v : Value) → found ≡ Found v → (w : ℕ) → w ≡ rowWidth k → (row : Row) → row ≡ nextRow rows w (e .row) id
-      → (r : Step) → r ≡ added e v row → r ≡ recordStep k slots rows id e
+  pub record-found : (v : Value) → found ≡ Found v → (r : Step) → r ≡ added e v → r ≡ recordStep k slots id row e
   unfolding valued
-  record-found v h w ew row en r g = g ∙ sym (by-row ∙ rw (h, ← ew, ← en) refl)
+  record-found v h r g = g ∙ sym (by-row ∙ rw h refl)
 
-  pub record-missing : found ≡ Missing → Unsound ≡ recordStep k slots rows id e
+  pub record-missing : found ≡ Missing → Unsound ≡ recordStep k slots id row e
   unfolding valued
   record-missing h = sym (by-row ∙ rw h refl)
 
@@ -253,16 +238,51 @@ module _ (k : Kind) (xs : Bytes) (id : ℕ) (e : Ends) where
   unfolding checkpointHolds
   holds-is h b eb = rw (eq-eqb (id % 1024) 0 h) eb
 
-module _ (k : Kind) (slots rows checkpoints : Bytes) (id : ℕ) (e : Ends) (r : Step) (er : r ≡ recordStep k slots rows id e) where
-  pub step-unsound : r ≡ Unsound → Unsound ≡ auditStep k slots rows checkpoints id e
-  unfolding auditStep tested
-  step-unsound h = rw (← er, h) refl
+module _ (k : Kind) (slots checkpoints : Bytes) (id : ℕ) (row : Row) where
+  module _ (e : Ends) (r : Step) (er : r ≡ recordStep k slots id row e) where
+    pub step-unsound : r ≡ Unsound → Unsound ≡ endsAfter k slots checkpoints id row e
+    unfolding endsAfter tested
+    step-unsound h = rw (← er, h) refl
 
-  module _ (t : Ends) (h : r ≡ Next t) (b : Bool) (eb : b ≡ checkpointHolds k checkpoints id t) where
-    pub step-holds : b ≡ true → Next t ≡ auditStep k slots rows checkpoints id e
-    unfolding auditStep tested
-    step-holds g = rw (← er, h, ← eb, g) refl
+    module _ (t : Ends) (h : r ≡ Next t) (b : Bool) (eb : b ≡ checkpointHolds k checkpoints id t) where
+      pub step-holds : b ≡ true → Next t ≡ endsAfter k slots checkpoints id row e
+      unfolding endsAfter tested
+      step-holds g = rw (← er, h, ← eb, g) refl
 
-    pub step-fails : b ≡ false → Unsound ≡ auditStep k slots rows checkpoints id e
-    unfolding auditStep tested
-    step-fails g = rw (← er, h, ← eb, g) refl
+      pub step-fails : b ≡ false → Unsound ≡ endsAfter k slots checkpoints id row e
+      unfolding endsAfter tested
+      step-fails g = rw (← er, h, ← eb, g) refl
+
+  module _ (q : Step) where
+    pub audit-next : (e : Ends) → q ≡ Next e → (r : Step) → r ≡ endsAfter k slots checkpoints id row e → r ≡ auditStep k slots checkpoints id row q
+    unfolding auditStep
+    audit-next e h r er = er ∙ rw h refl
+
+    pub audit-stays : q ≡ Unsound → Unsound ≡ auditStep k slots checkpoints id row q
+    unfolding auditStep
+    audit-stays h = rw h refl
+
+-- ---- the pass
+
+pub begins : Next (record { body = 16; span = 16 }) ≡ begin
+unfolding begin
+begins = refl
+
+module _ (q : Step) where
+  module _ (e : Ends) (h : q ≡ Next e) where
+    pub goes-on-next : (n m : ℕ) → ltb n m ≡ goesOn q n m
+    unfolding goesOn
+    goes-on-next n m = rw h refl
+
+    pub sound-next : (row : Row) (b : Bool) → b ≡ isEnd row → b ≡ isSound q row
+    unfolding isSound
+    sound-next row b eb = eb ∙ rw h refl
+
+  module _ (h : q ≡ Unsound) where
+    pub goes-on-not : (n m : ℕ) → false ≡ goesOn q n m
+    unfolding goesOn
+    goes-on-not n m = rw h refl
+
+    pub sound-not : (row : Row) → false ≡ isSound q row
+    unfolding isSound
+    sound-not row = rw h refl

@@ -5,16 +5,11 @@ ghost use Rattle.loc_calls.specs.Areas.{areas};
 ghost use Rattle.loc_calls.specs.Audit.{sound};
 ghost use Rattle.loc_calls.specs.Calls.{audit};
 ghost use Rattle.loc_audit.specs.Pass.{Auditable};
-use crate::Ends;
-use crate::Step;
-use crate::pass::audit_step;
-use crate::pass::is_end;
+use crate::pass::pass;
 use loc_leaf::Answer;
 use loc_leaf::Kind;
 use loc_leaf::delta_loc::row_width;
-use loc_leaf::file::FILE_HEADER_LEN;
 use loc_leaf::file::logical_len;
-use loc_rows::step;
 use loc_store::check::call_refusal;
 use loc_store::plan::piece_count;
 
@@ -26,26 +21,7 @@ fn areas_sound(kind: Kind, slots: &[u8], rows: &[u8], checkpoints: &[u8]) -> boo
     let count = piece_count(slots, 2) as u64;
     let end = logical_len(rows);
     let published = &rows[..end];
-    let row = step(published, FILE_HEADER_LEN, row_width(kind));
-    let mut e = Ends {
-        body: 16,
-        span: 16,
-        row,
-    };
-    let mut n: u64 = 0;
-    while n < count {
-        n += 1;
-        match audit_step(kind, slots, published, checkpoints, n, e) {
-            Step::Next(after) => {
-                e = after;
-            }
-            Step::Unsound => {
-                return false;
-            }
-        }
-    }
-    let left = e.row;
-    is_end(left)
+    pass(kind, slots, published, checkpoints, count, row_width(kind))
 }
 
 pub fn audit_areas(kind: Kind, slots: &[u8], rows: &[u8], checkpoints: &[u8]) -> Answer

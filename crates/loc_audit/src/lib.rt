@@ -3,13 +3,10 @@
 pub mod audit;
 pub mod pass;
 
-use loc_rows::Row;
-
-// Where the records so far end, body and span, both from 16 on, and the row that the reader stands at.
+// Where the records so far end, body and span, both from 16 on.
 pub struct Ends {
     pub body: u64,
     pub span: u64,
-    pub row: Row,
 }
 
 // A sum below 2^64, or that it would pass that.
@@ -18,7 +15,7 @@ pub enum Sum {
     Past,
 }
 
-// The ends after one record more, or that the index is not sound.
+// The ends after so many records, or that the index is not sound.
 pub enum Step {
     Next(Ends),
     Unsound,

@@ -1,11 +1,12 @@
 // One record of the audit's pass: its row, its value, the ends after it, and its checkpoint.
-// The row that the reader stands at is carried along: the first one numbered above the record before. So each row is read once.
+// The reader and the row at its place are carried along, so each row is read once.
 ghost use mathlib.Core.Path.{_≡_};
 ghost use mathlib.Core.List.{[], _∷_};
 ghost use Prim.Native.Nat.{_^_, _<_};
+ghost use Rattle.loc_leaf.specs.Kind.{rowWidth};
 ghost use Rattle.loc_leaf.specs.Slot.{slotAt};
 ghost use Rattle.loc_calls.specs.Audit.{byteFits, rowFits, rowWanted};
-ghost use Rattle.loc_audit.specs.Pass.{ownRow, nextRow, isEnd, slotSays, endAfter, added, recordStep, checkpointIs, checkpointHolds, auditStep};
+ghost use Rattle.loc_audit.specs.Pass.{ownRow, isOwn, slotSays, endAfter, added, recordStep, checkpointIs, checkpointHolds, endsAfter, auditStep, begin, goesOn, isSound, Judges};
 use crate::Ends;
 use crate::Step;
 use crate::Sum;
@@ -15,12 +16,14 @@ use loc_leaf::delta_loc::LOC_WINDOW;
 use loc_leaf::delta_loc::Lookup;
 use loc_leaf::delta_loc::inline_value;
 use loc_leaf::delta_loc::needs_row;
-use loc_leaf::delta_loc::row_width;
 use loc_leaf::delta_loc::slot_at;
 use loc_leaf::file::FILE_HEADER_LEN;
 use loc_leaf::file::u64_at;
 use loc_rows::Row;
-use loc_rows::step;
+use loc_rows::here;
+use loc_rows::is_end;
+use loc_rows::onward;
+use loc_rows::reader;
 
 // What the row at the reader's place says, if it is the row of record id.
 fn own_row(row: Row, id: u64) -> Lookup
@@ -31,7 +34,6 @@ fn own_row(row: Row, id: u64) -> Lookup
             number,
             strides,
             spans,
-            next: _,
         } => {
             if number == id {
                 return Lookup::Found(Value { strides, spans });
@@ -42,43 +44,17 @@ fn own_row(row: Row, id: u64) -> Lookup
     }
 }
 
-// The row that the reader stands at after record id: the next one, if this is its own.
-fn next_row(rows: &[u8], width: usize, row: Row, id: u64) -> Row
-    ensures { λ r. ⌜ r ≡ nextRow (now (rows .entry)) width row id ⌝ }
+// Whether the row at the reader's place is that of record id.
+fn is_own(row: Row, id: u64) -> bool
+    ensures { λ r. ⌜ r ≡ isOwn row id ⌝ }
 {
     match row {
         Row::At {
             number,
-            strides,
-            spans,
-            next,
-        } => {
-            if number == id {
-                return step(rows, next, width);
-            }
-            Row::At {
-                number,
-                strides,
-                spans,
-                next,
-            }
-        }
-        Row::End => Row::End,
-    }
-}
-
-// Whether no row stands at the reader's place: all are passed.
-pub fn is_end(row: Row) -> bool
-    ensures { λ r. ⌜ r ≡ isEnd row ⌝ }
-{
-    match row {
-        Row::At {
-            number: _,
             strides: _,
             spans: _,
-            next: _,
-        } => false,
-        Row::End => true,
+        } => number == id,
+        Row::End => false,
     }
 }
 
@@ -152,8 +128,8 @@ fn end_after(end: u64, units: u32) -> Sum
 }
 
 // The ends after a record of this value.
-fn add(e: Ends, v: Value, row: Row) -> Step
-    ensures { λ r. ⌜ r ≡ added e v row ⌝ }
+fn add(e: Ends, v: Value) -> Step
+    ensures { λ r. ⌜ r ≡ added e v ⌝ }
 {
     let Sum::Below(body) = end_after(e.body, v.strides) else {
         return Step::Unsound;
@@ -161,18 +137,17 @@ fn add(e: Ends, v: Value, row: Row) -> Step
     let Sum::Below(span) = end_after(e.span, v.spans) else {
         return Step::Unsound;
     };
-    Step::Next(Ends { body, span, row })
+    Step::Next(Ends { body, span })
 }
 
 // The ends after record id.
-fn record_step(kind: Kind, slots: &[u8], rows: &[u8], id: u64, e: Ends) -> Step
-    ensures { λ r. ⌜ r ≡ recordStep kind (now (slots .entry)) (now (rows .entry)) id e ⌝ }
+fn record_step(kind: Kind, slots: &[u8], id: u64, row: Row, e: Ends) -> Step
+    ensures { λ r. ⌜ r ≡ recordStep kind (now (slots .entry)) id row e ⌝ }
 {
-    let row = e.row;
     let own = own_row(row, id);
     let found = slot_says(kind, slots, id, own);
     match found {
-        Lookup::Found(v) => add(e, v, next_row(rows, row_width(kind), row, id)),
+        Lookup::Found(v) => add(e, v),
         Lookup::Missing => Step::Unsound,
     }
 }
@@ -207,18 +182,11 @@ fn checkpoint_holds(kind: Kind, checkpoints: &[u8], id: u64, e: Ends) -> bool
 }
 
 // The ends after record id, whose checkpoint says them if it has one.
-pub fn audit_step(
-    kind: Kind,
-    slots: &[u8],
-    rows: &[u8],
-    checkpoints: &[u8],
-    id: u64,
-    e: Ends,
-) -> Step
+fn ends_after(kind: Kind, slots: &[u8], checkpoints: &[u8], id: u64, row: Row, e: Ends) -> Step
     requires { ⌜ 0 < id ⌝ }
-    ensures { λ r. ⌜ r ≡ auditStep kind (now (slots .entry)) (now (rows .entry)) (now (checkpoints .entry)) id e ⌝ }
+    ensures { λ r. ⌜ r ≡ endsAfter kind (now (slots .entry)) (now (checkpoints .entry)) id row e ⌝ }
 {
-    let step = record_step(kind, slots, rows, id, e);
+    let step = record_step(kind, slots, id, row, e);
     match step {
         Step::Next(after) => {
             if checkpoint_holds(kind, checkpoints, id, after) {
@@ -228,4 +196,69 @@ pub fn audit_step(
         }
         Step::Unsound => Step::Unsound,
     }
+}
+
+// The same after what the records before came to.
+fn audit_step(kind: Kind, slots: &[u8], checkpoints: &[u8], id: u64, row: Row, before: Step) -> Step
+    requires { ⌜ 0 < id ⌝ }
+    ensures { λ r. ⌜ r ≡ auditStep kind (now (slots .entry)) (now (checkpoints .entry)) id row before ⌝ }
+{
+    match before {
+        Step::Next(e) => ends_after(kind, slots, checkpoints, id, row, e),
+        Step::Unsound => Step::Unsound,
+    }
+}
+
+// Before the first record.
+fn begun() -> Step
+    ensures { λ r. ⌜ r ≡ begin ⌝ }
+{
+    Step::Next(Ends { body: 16, span: 16 })
+}
+
+// Whether there is a record to look at after n of them.
+fn goes_on(step: Step, n: u64, count: u64) -> bool
+    ensures { λ r. ⌜ r ≡ goesOn step n count ⌝ }
+{
+    match step {
+        Step::Next(_) => n < count,
+        Step::Unsound => false,
+    }
+}
+
+// Whether the records were sound, and no row is left.
+fn is_sound(step: Step, row: Row) -> bool
+    ensures { λ r. ⌜ r ≡ isSound step row ⌝ }
+{
+    match step {
+        Step::Next(_) => is_end(row),
+        Step::Unsound => false,
+    }
+}
+
+// Whether an index of so many records is sound. The reader goes along: it stands at the first row numbered above the record before.
+pub fn pass(
+    kind: Kind,
+    slots: &[u8],
+    rows: &[u8],
+    checkpoints: &[u8],
+    count: u64,
+    width: usize,
+) -> bool
+    requires { ⌜ width ≡ rowWidth kind ⌝ }
+    ensures { λ b. ⌜ Judges kind (now (slots .entry)) (now (rows .entry)) (now (checkpoints .entry)) count b ⌝ }
+{
+    let mut r = reader(rows, FILE_HEADER_LEN);
+    let mut row = here(r, width);
+    let mut step = begun();
+    let mut n: u64 = 0;
+    while goes_on(step, n, count) {
+        n += 1;
+        step = audit_step(kind, slots, checkpoints, n, row, step);
+        if is_own(row, n) {
+            r = onward(r, width);
+            row = here(r, width);
+        }
+    }
+    is_sound(step, row)
 }

@@ -1,4 +1,4 @@
--- The reader's definitions computed: rows of both widths, the place of the next, and no whole row.
+-- The reader's definitions computed: rows of both widths, and no whole row.
 -- One proposition conjoins them.
 use mathlib.Core.Path.{_≡_, refl}
 use mathlib.Core.List.{[], _∷_, _++_}
@@ -18,11 +18,11 @@ abbrev single : Bytes
 single = replicate 16 7 ++ (row Single 2 (record { strides = 65536; spans = 0 }) ++ (row Single 9 (record { strides = 70000; spans = 0 }) ++ (7 ∷ [])))
 
 pub record Computed : Type 0 where
-  first : rowAt 16 paired 16 ≡ At 2 256 1 32
-  second : rowAt 16 paired 32 ≡ At 9 300 5 48
+  first : rowAt 16 paired 16 ≡ At 2 256 1
+  second : rowAt 16 paired 32 ≡ At 9 300 5
   behind : rowAt 16 paired 48 ≡ End
-  first-single : rowAt 12 single 16 ≡ At 2 65536 0 28
-  second-single : rowAt 12 single 28 ≡ At 9 70000 0 40
+  first-single : rowAt 12 single 16 ≡ At 2 65536 0
+  second-single : rowAt 12 single 28 ≡ At 9 70000 0
   behind-single : rowAt 12 single 40 ≡ End
   left : rowsFrom 16 paired 32 ≡ row Paired 9 (record { strides = 300; spans = 5 }) ∷ []
   none : rowsFrom 16 paired 48 ≡ []

@@ -30,7 +30,7 @@ module _ (w : ℕ) (xs : Bytes) (at : ℕ) where
   unfolding rowAt
   row-none h = rw (lt-leb (at + w) (length xs) h) refl
 
-  pub row-whole : at + w ≤ length xs → rowAt w xs at ≡ fields (take w (drop at xs)) (at + w)
+  pub row-whole : at + w ≤ length xs → rowAt w xs at ≡ fields (take w (drop at xs))
   unfolding rowAt
   row-whole h = rw (le-leb (at + w) (length xs) h) refl
 
@@ -40,12 +40,12 @@ module _ (w : ℕ) (xs : Bytes) (at : ℕ) where
   pub row-past : w ≤ length xs → length xs - w < at → End ≡ rowAt w xs at
   row-past g h = sym (row-none (omega arith))
 
-  pub row-there : w ≤ length xs → at ≤ length xs - w → (n s p next : ℕ) → next ≡ at + w → n ≡ numberAt 8 0 (take (next - at) (drop at xs))
-      → s ≡ numberAt 4 8 (take (next - at) (drop at xs)) → p ≡ numberAt 4 12 (take (next - at) (drop at xs)) → At n s p next ≡ rowAt w xs at
+  pub row-there : w ≤ length xs → at ≤ length xs - w → (n s p end : ℕ) → end ≡ at + w → n ≡ numberAt 8 0 (take (end - at) (drop at xs))
+      → s ≡ numberAt 4 8 (take (end - at) (drop at xs)) → p ≡ numberAt 4 12 (take (end - at) (drop at xs)) → At n s p ≡ rowAt w xs at
   unfolding fields rowNumber
-  row-there g h n s p next e en es ep =
-      let z : next - at ≡ w = omega arith in
-      rw (en, es, ep, z, e) (sym (row-whole (omega arith)))
+  row-there g h n s p end e en es ep =
+      let z : end - at ≡ w = omega arith in
+      rw (en, es, ep, z) (sym (row-whole (omega arith)))
 
 -- the values of a row of a kind's width: one of 12 bytes has no spans
 pub row-value : (k : Kind) (xs : Bytes) → record { strides = numberAt 4 8 (take (rowWidth k) xs); spans = numberAt 4 12 (take (rowWidth k) xs) } ≡ rowValue k (take (rowWidth k) xs)
@@ -104,7 +104,7 @@ module _ (r : Row) where
   unfolding numberOf
   number-none e = rw e refl
 
-  module _ {n s p next : ℕ} (e : r ≡ At n s p next) where
+  module _ {n s p : ℕ} (e : r ≡ At n s p) where
     pub end-not : false ≡ isEnd r
     unfolding isEnd
     end-not = rw e refl

@@ -11,13 +11,12 @@ use loc_leaf::file::logical_len;
 use loc_leaf::file::u32_at;
 use loc_leaf::file::u64_at;
 
-// What stands at a place: a row, with the place of the next, or no whole row. A row of 12 bytes has no spans.
+// What stands at a place: a row, or no whole one. A row of 12 bytes has no spans.
 pub enum Row {
     At {
         number: u64,
         strides: u32,
         spans: u32,
-        next: usize,
     },
     End,
 }
@@ -44,7 +43,6 @@ pub fn row_at(rows: &[u8], at: usize, width: usize) -> Row
         number: u64_at(row, 0),
         strides: u32_at(row, 8),
         spans: u32_at(row, 12),
-        next: end,
     }
 }
 
@@ -59,13 +57,6 @@ pub fn here<'a>(r: RowReader<'a>, width: usize) -> Row
     ensures { λ s. ⌜ s ≡ rowAt width (now (r .entry .rows)) (r .entry .at) ⌝ }
 {
     row_at(r.rows, r.at, width)
-}
-
-// The row that a reader at a place finds, for callers that carry the slice and the place by themselves.
-pub fn step(rows: &[u8], at: usize, width: usize) -> Row
-    ensures { λ r. ⌜ r ≡ rowAt width (now (rows .entry)) at ⌝ }
-{
-    here(reader(rows, at), width)
 }
 
 // The reader at the next row's place.
@@ -88,7 +79,6 @@ pub fn is_end(row: Row) -> bool
             number: _,
             strides: _,
             spans: _,
-            next: _,
         } => false,
         Row::End => true,
     }
@@ -103,7 +93,6 @@ fn is_above(row: Row, last: u64) -> bool
             number,
             strides: _,
             spans: _,
-            next: _,
         } => last < number,
         Row::End => false,
     }
@@ -118,7 +107,6 @@ fn number_of(row: Row) -> u64
             number,
             strides: _,
             spans: _,
-            next: _,
         } => number,
         Row::End => 0,
     }

@@ -1,38 +1,25 @@
 -- `loc_audit::pass::audit_step` meets its contract.
 use borrow.Author.Needs.{needs}
-use Rattle.loc_audit.proofs.StepLaws.{step-holds, step-fails, step-unsound}
+use Rattle.loc_audit.proofs.StepLaws.{audit-next, audit-stays}
 use Rattle.loc_audit.proofs.pass.audit_step.Statement.{statement}
 use Rattle.loc_audit.proofs.pass.audit_step.Tie as tie
+use Rattle.loc_audit.proofs.pass.ends_after.Reads as ends-after-reads
 
-record-step-requires : tie.Need-record-step-requires
-record-step-requires c κs = search needs
+enum-known-before : tie.Need-enum-known-before
+enum-known-before c = search needs
 
-enum-known-step : tie.Need-enum-known-step
-enum-known-step c = search needs
-
-checkpoint-holds-requires : tie.Need-checkpoint-holds-requires
-checkpoint-holds-requires c κs = search needs
-
-returns : tie.Need-returns
-returns c = search (needs, step-holds)
+ends-after-requires : tie.Need-ends-after-requires
+ends-after-requires c κs = search needs
 
 enum-told : tie.Need-enum-told
 enum-told c = search needs
 
-returns-2 : tie.Need-returns-2
-returns-2 c = search (needs, step-fails)
+returns : tie.Need-returns
+returns c = search (needs, audit-next)
 
-returns-3 : tie.Need-returns-3
-returns-3 c = search (needs, step-unsound)
+returns-2 : tie.Need-returns-2
+returns-2 c = search (needs, audit-stays)
 
 pub audit-step-spec : {M : Type 1} → statement M
 audit-step-spec =
-    tie.close
-    (tie.spec
-    record-step-requires
-    enum-known-step
-    checkpoint-holds-requires
-    returns
-    enum-told
-    returns-2
-    returns-3)
+    tie.close (tie.spec enum-known-before ends-after-requires enum-told returns returns-2)

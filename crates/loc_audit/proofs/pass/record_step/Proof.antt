@@ -3,6 +3,9 @@ use borrow.Author.Needs.{needs}
 use Rattle.loc_audit.proofs.StepLaws.{record-found, record-missing}
 use Rattle.loc_audit.proofs.pass.record_step.Statement.{statement}
 use Rattle.loc_audit.proofs.pass.record_step.Tie as tie
+use Rattle.loc_audit.proofs.pass.add.Reads as add-reads
+use Rattle.loc_audit.proofs.pass.own_row.Reads as own-row-reads
+use Rattle.loc_audit.proofs.pass.slot_says.Reads as slot-says-reads
 
 own-row-requires : tie.Need-own-row-requires
 own-row-requires c κs = search needs
@@ -12,12 +15,6 @@ slot-says-requires c κs = search needs
 
 enum-known-found : tie.Need-enum-known-found
 enum-known-found c = search needs
-
-row-width-requires : tie.Need-row-width-requires
-row-width-requires c κs = search needs
-
-next-row-requires : tie.Need-next-row-requires
-next-row-requires c κs = search needs
 
 add-requires : tie.Need-add-requires
 add-requires c κs = search needs
@@ -38,8 +35,6 @@ record-step-spec =
     own-row-requires
     slot-says-requires
     enum-known-found
-    row-width-requires
-    next-row-requires
     add-requires
     enum-told
     returns
