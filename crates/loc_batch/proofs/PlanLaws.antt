@@ -26,13 +26,15 @@ use Rattle.loc_calls.specs.Reading.{endRead}
 use Rattle.loc_calls.specs.Calls.{tableOf}
 use Rattle.loc_calls.proofs.Batches.{Fits, batch-tested, batch-fits}
 use Rattle.loc_calls.proofs.Gathered.{widths-slots, widths-rows, widths-checkpoints, length-slots, length-checkpoints-from}
+use Rattle.loc_store.specs.declared.Lengths.{Lengths}
+use Rattle.loc_store.specs.declared.Checked.{Checked}
+use Rattle.loc_store.specs.Areas.{EndsOf, Checks}
 use Rattle.loc_batch.specs.Lists.{entryAt, asEntry, listed, Held, rowTotal, Tested}
 use Rattle.loc_batch.proofs.EntryLaws.{starts-even, spans-even}
 use Rattle.loc_batch.proofs.BatchLaws.{rows-staged}
-use Rattle.loc_batch.specs.Plans.{TestedOn, EndsOf, windows, reached, Reaches, Ready, RoomPast, Planned}
+use Rattle.loc_batch.specs.Plans.{TestedOn, windows, reached, Reaches, Ready, RoomPast, Planned}
 use Rattle.loc_batch.specs.declared.Record.{Record}
 use Rattle.loc_batch.specs.declared.Stage.{Stage}
-use Rattle.loc_batch.specs.declared.Ends.{Ends}
 use Rattle.loc_batch.specs.declared.Decision.{Decision}
 
 -- ---- an end past its area
@@ -48,7 +50,7 @@ past-is size end w n h p = go (is? (ltb ((size - end) / w) n))
         let g : n * w ≤ (size - end) / w * w = mul-le-mul-right w (ltb-false ((size - end) / w) n t) in
         t ∙ sym (le-ltb size (end + w * n) (omega (arith, div-mul-le-self (size - end) w, mul-comm n w)))
 
-module _ (k : Kind) (slots rows checkpoints : ℕ) (old : Ends) (base n r : ℕ) (b : Bool) (eb : b ≡ ltb slots (old .slots + 2 * n)) where
+module _ (k : Kind) (slots rows checkpoints : ℕ) (old : Lengths) (base n r : ℕ) (b : Bool) (eb : b ≡ ltb slots (old .slots + 2 * n)) where
   pub reach-slots : (t : Stage) → b ≡ true → Reaches k slots rows checkpoints old base n r (record { number = 13; stage = t })
   unfolding reached
   reach-slots t h = record { number = rw (← eb, h) refl; stage = λ e. absurd (omega arith); few = λ e. absurd (omega arith) }
@@ -144,7 +146,7 @@ module _ (k : Kind) (m : ℕ) (es : List Entry) where
 -- ---- the plan
 
 -- the ends that are reached, as those of loc_calls
-module _ (k : Kind) (a : Areas) (es : List Entry) (old : Ends) (eo : EndsOf a old) (base n : ℕ) (eb : base ≡ count a) (en : length es ≡ n) where
+module _ (k : Kind) (a : Areas) (es : List Entry) (old : Lengths) (eo : EndsOf a old) (base n : ℕ) (eb : base ≡ count a) (en : length es ≡ n) where
   reached-slots : newEnd (a .slots) (gather (slotOf k) (count a) es) ≡ old .slots + 2 * n
   unfolding newEnd
   reached-slots = rw (slot-bytes k (count a) es, en, ← eo .slots) refl
@@ -209,7 +211,11 @@ ready-from k a es t eb eo x y z few ok = record {
     fits : Fits a (staged k (count a) es)
     fits = batch-fits k (endRead k a) a es ok
 
-module _ (k : Kind) (a : Areas) (b : Batch) (agree : Bool) (ea : agree ≡ not (uneven k b)) (h : agree ≡ true) (old : Ends) (eo : EndsOf a old) (base : ℕ) (eb : base ≡ count a) (n : ℕ) (en : n ≡ length (b .lens)) where
+module _ (k : Kind) (a : Areas) (b : Batch) (agree : Bool) (ea : agree ≡ not (uneven k b)) (h : agree ≡ true) (o : Checked) (q : Checks k a o) (n : ℕ) (en : n ≡ length (b .lens)) where
+  eb : o .count ≡ count a
+  unfolding count
+  eb = q .count
+
   all-of : tableOf k a (append b) ≡ batchRefusal k (endRead k a) (newEnds k a (listed (entryAt k b) 0 n)) (sizes a) (listed (entryAt k b) 0 n)
   unfolding es
   all-of = whole k a b agree ea h ∙ ap (λ (m : ℕ). batchRefusal k (endRead k a) (newEnds k a (listed (entryAt k b) 0 m)) (sizes a) (listed (entryAt k b) 0 m)) (sym en)
@@ -217,11 +223,11 @@ module _ (k : Kind) (a : Areas) (b : Batch) (agree : Bool) (ea : agree ≡ not (
   listed-of : entries k b ≡ listed (entryAt k b) 0 n
   listed-of = entries-listed k b (even k a b agree ea h) ∙ ap (listed (entryAt k b) 0) (sym en)
 
-  pub plan-empty : n ≡ 0 → base < 2 ^ 64 → Planned k a b (record { number = 0; stage = record { base = base; n = 0; old = old; new = old } })
+  pub plan-empty : n ≡ 0 → o .count < 2 ^ 64 → Planned k a b (record { number = 0; stage = record { base = o .count; n = 0; old = o .ends; new = o .ends } })
   plan-empty z few = record {
     number = sym (all-of ∙ none);
     entries = λ _. listed-of ∙ ap (listed (entryAt k b) 0) z;
-    ready = λ _. ready-from k a (listed (entryAt k b) 0 0) _ eb eo (same (a .slots) (slotOf k) (eo .slots)) (same (a .rows) (rowOf k) (eo .rows)) (same (a .checkpoints) (checkpointOf k) (eo .checkpoints)) (omega arith) none₀;
+    ready = λ _. ready-from k a (listed (entryAt k b) 0 0) _ eb (q .ends) (same (a .slots) (slotOf k) (q .ends .slots)) (same (a .rows) (rowOf k) (q .ends .rows)) (same (a .checkpoints) (checkpointOf k) (q .ends .checkpoints)) (omega arith) none₀;
     held = λ _. record { even = even k a b agree ea h; inside = omega arith };
   }
     where
@@ -249,12 +255,12 @@ module _ (k : Kind) (a : Areas) (b : Batch) (agree : Bool) (ea : agree ≡ not (
       held = λ e. absurd (g e);
     }
 
-    module _ (ok : number ≡ 0) (d : Decision) (r : Reaches k (length (a .slots)) (length (a .rows)) (length (a .checkpoints)) old base n rows d) where
+    module _ (ok : number ≡ 0) (d : Decision) (r : Reaches k (length (a .slots)) (length (a .rows)) (length (a .checkpoints)) (o .ends) (o .count) n rows d) where
       reach-number : d .number ≡ batchRefusal k (endRead k a) (newEnds k a (listed (entryAt k b) 0 n)) (sizes a) (listed (entryAt k b) 0 n)
       unfolding endPast newEnds staged sizes reached
       reach-number =
           r .number
-          ∙ rw (← reached-slots k a (listed (entryAt k b) 0 n) old eo base n eb long, ← reached-rows k a (listed (entryAt k b) 0 n) old eo base n eb long rows (tested .total ok), ← reached-checkpoints k a (listed (entryAt k b) 0 n) old eo base n eb long)
+          ∙ rw (← reached-slots k a (listed (entryAt k b) 0 n) (o .ends) (q .ends) (o .count) n eb long, ← reached-rows k a (listed (entryAt k b) 0 n) (o .ends) (q .ends) (o .count) n eb long rows (tested .total ok), ← reached-checkpoints k a (listed (entryAt k b) 0 n) (o .ends) (q .ends) (o .count) n eb long)
           (sym (number-first ∙ rw ok refl))
         where
           long : length (listed (entryAt k b) 0 n) ≡ n
@@ -265,14 +271,21 @@ module _ (k : Kind) (a : Areas) (b : Batch) (agree : Bool) (ea : agree ≡ not (
       plan-reached = record {
         number = reach-number ∙ sym all-of;
         entries = λ e. listed-of ∙ ap (listed (entryAt k b) 0) (sym (ap (λ (t : Stage). t .n) (r .stage e)));
-        ready = λ e. rw (r .stage e) (ready-from k a (listed (entryAt k b) 0 n) _ eb eo
-            (sym (reached-slots k a (listed (entryAt k b) 0 n) old eo base n eb long)) (sym (reached-rows k a (listed (entryAt k b) 0 n) old eo base n eb long rows (tested .total ok)))
-            (sym (reached-checkpoints k a (listed (entryAt k b) 0 n) old eo base n eb long)) (r .few e) (sym reach-number ∙ e));
+        ready = λ e. rw (r .stage e) (ready-from k a (listed (entryAt k b) 0 n) _ eb (q .ends)
+            (sym (reached-slots k a (listed (entryAt k b) 0 n) (o .ends) (q .ends) (o .count) n eb long)) (sym (reached-rows k a (listed (entryAt k b) 0 n) (o .ends) (q .ends) (o .count) n eb long rows (tested .total ok)))
+            (sym (reached-checkpoints k a (listed (entryAt k b) 0 n) (o .ends) (q .ends) (o .count) n eb long)) (r .few e) (sym reach-number ∙ e));
         held = λ e. rw (r .stage e, en) (all-held k b agree ea h);
       }
         where
           long : length (listed (entryAt k b) 0 n) ≡ n
           long = length-listed (entryAt k b) 0 n
 
-pub ends-inside : (a : Areas) (e : Ends) → EndsOf a e → (e .slots ≤ length (a .slots)) × (e .rows ≤ length (a .rows)) × (e .checkpoints ≤ length (a .checkpoints))
-ends-inside a e q = (omega (arith, q .slots, counted-le (a .slots)), omega (arith, q .rows, counted-le (a .rows)), omega (arith, q .checkpoints, counted-le (a .checkpoints)))
+-- what `reach` asks
+pub ends-inside : (k : Kind) (a : Areas) (o : Checked) → Checks k a o
+    → (o .ends .slots ≤ length (a .slots)) × (o .ends .rows ≤ length (a .rows)) × (o .ends .checkpoints ≤ length (a .checkpoints)) × (2 * o .count ≤ length (a .slots))
+ends-inside k a o q = (
+  omega (arith, q .ends .slots, counted-le (a .slots)),
+  omega (arith, q .ends .rows, counted-le (a .rows)),
+  omega (arith, q .ends .checkpoints, counted-le (a .checkpoints)),
+  omega (arith, q .room),
+)

@@ -5,7 +5,8 @@ use mathlib.Core.Path.{_≡_, refl, sym, ap, _∙_}
 use mathlib.Core.List.{List}
 use Rattle.loc_leaf.specs.declared.Kind.{Kind}
 use Rattle.loc_leaf.specs.Bytes.{Bytes}
-use Rattle.loc_leaf.specs.Answers.{_orElse_}
+use Rattle.loc_leaf.specs.declared.Answer.{Answer}
+use Rattle.loc_leaf.specs.Answers.{_orElse_, acceptedWith, refusedBy}
 use Rattle.loc_leaf.specs.Area.{fill}
 use Rattle.loc_calls.specs.Areas.{Areas, areas, count}
 use Rattle.loc_calls.specs.Table.{Entry, Batch, append, entries}
@@ -14,6 +15,8 @@ use Rattle.loc_calls.specs.Calls.{firstRefusal, unread, isOpening, tableOf, ref
 use Rattle.loc_leaf.proofs.Refusals.{orElse-first, orElse-zero}
 use Rattle.loc_calls.specs.Promises.{Stored}
 use Rattle.loc_calls.proofs.Outcomes.{refused, accepted, refusal-after}
+use Rattle.loc_store.specs.declared.Checked.{Checked}
+use Rattle.loc_store.specs.Areas.{Checks}
 use Rattle.loc_batch.specs.Lists.{entryAt, listed, Held}
 use Rattle.loc_batch.specs.Plans.{growing, stagePlaces, RoomPast, Ready, Planned}
 use Rattle.loc_batch.specs.declared.Stage.{Stage}
@@ -32,16 +35,16 @@ module _ (k : Kind) (s r c : Bytes) (b : Batch) (p : ℕ) where
       refusal-after k (append b) (areas s r c) first refl e
       ∙ ap (λ (n : ℕ). first orElse n) (orElse-zero (tableOf k (areas s r c) (append b)))
 
-  pub append-refused : (first : ℕ) → first ≡ firstRefusal k (areas s r c) → (first ≡ 0 → ⊥)
-      → Stored (call k p (append b) (areas s r c)) (record { number = first; value = 0 }) (areas s r c)
-  append-refused first e h = refused k p (append b) (areas s r c) first (append-number first e ∙ orElse-first first _ h) h
+  pub append-refused : (o : Checked) (x : Answer) → Checks k (areas s r c) o → (o .number ≡ 0 → ⊥) → x ≡ refusedBy (o .number)
+      → Stored (call k p (append b) (areas s r c)) x (areas s r c)
+  append-refused o x e h y = rw y (refused k p (append b) (areas s r c) (o .number) (append-number (o .number) (e .number) ∙ orElse-first (o .number) _ h) h)
 
-  module _ (z : firstRefusal k (areas s r c) ≡ 0) (d : Decision) (q : Planned k (areas s r c) b d) where
+  module _ (o : Checked) (e : Checks k (areas s r c) o) (z : o .number ≡ 0) (d : Decision) (q : Planned k (areas s r c) b d) where
     planned-number : refusal k (append b) (areas s r c) ≡ d .number
-    planned-number = append-number 0 (sym z) ∙ sym (q .number)
+    planned-number = append-number 0 (sym z ∙ e .number) ∙ sym (q .number)
 
-    pub append-planned : (d .number ≡ 0 → ⊥) → Stored (call k p (append b) (areas s r c)) (record { number = d .number; value = 0 }) (areas s r c)
-    append-planned h = refused k p (append b) (areas s r c) (d .number) planned-number h
+    pub append-planned : (x : Answer) → (d .number ≡ 0 → ⊥) → x ≡ refusedBy (d .number) → Stored (call k p (append b) (areas s r c)) x (areas s r c)
+    append-planned x h y = rw y (refused k p (append b) (areas s r c) (d .number) planned-number h)
 
     module _ (ok : d .number ≡ 0) where
       pub append-room : RoomPast k (d .stage .base) (d .stage .n) (listed (entryAt k b) 0 (d .stage .n)) (areas s r c)
@@ -50,10 +53,10 @@ module _ (k : Kind) (s r c : Bytes) (b : Batch) (p : ℕ) where
       pub append-held : Held k b (d .stage .n)
       append-held = q .held ok
 
-      pub append-done : (x y o : Bytes) (m : ℕ) → areas x y o ≡ run p (stagePlaces k (listed (entryAt k b) 0 (d .stage .n)) (d .stage)) (areas s r c) → m ≡ fill 2 x
-          → Stored (call k p (append b) (areas s r c)) (record { number = 0; value = m }) (areas x y o)
+      pub append-done : (s₁ r₁ c₁ : Bytes) (m : ℕ) (x : Answer) → areas s₁ r₁ c₁ ≡ run p (stagePlaces k (listed (entryAt k b) 0 (d .stage .n)) (d .stage)) (areas s r c)
+          → m ≡ fill 2 s₁ → x ≡ acceptedWith m → Stored (call k p (append b) (areas s r c)) x (areas s₁ r₁ c₁)
       unfolding places value count
-      append-done x y o m g em =
-          rw em (accepted k p (append b) (areas s r c) (areas x y o) (planned-number ∙ ok)
+      append-done s₁ r₁ c₁ m x g em y =
+          rw (y, em) (accepted k p (append b) (areas s r c) (areas s₁ r₁ c₁) (planned-number ∙ ok)
           (g ∙ ap (λ (ps : List Place). run p ps (areas s r c)) (places-are k (areas s r c) (listed (entryAt k b) 0 (d .stage .n)) (d .stage) (q .ready ok)
           ∙ ap (λ (l : List Entry). appendPlaces (areas s r c) (staged k (count (areas s r c)) l)) (sym (q .entries ok)))))

@@ -16,9 +16,9 @@ use Rattle.loc_calls.specs.Table.{Entry, Batch, append, entriesRefusal, startRe
 use Rattle.loc_calls.specs.Stores.{Place, keep, slotLength, rowLength, checkpointLength, write, gather, slotOf, rowOf, checkpointOf, staged, newEnd}
 use Rattle.loc_calls.specs.Reading.{endRead}
 use Rattle.loc_calls.specs.Calls.{tableOf}
+use Rattle.loc_store.specs.declared.Lengths.{Lengths}
 use Rattle.loc_batch.specs.Lists.{entryAt, listed, rowTotal, Held, Room}
 use Rattle.loc_batch.specs.declared.Stage.{Stage}
-use Rattle.loc_batch.specs.declared.Ends.{Ends}
 use Rattle.loc_batch.specs.declared.Decision.{Decision}
 
 -- a length is stored only in an area whose end moves
@@ -47,23 +47,17 @@ pub record TestedOn (k : Kind) (a : Areas) (f : ℕ → Entry) (n number rows : 
   pub refused : number ≡ startRefusal (endRead k a) (f 0) orElse entriesRefusal k (listed f 0 n)
   pub total : number ≡ 0 → rows ≡ rowTotal k (listed f 0 n)
 
--- these are the counted lengths
-pub record EndsOf (a : Areas) (e : Ends) : Type 0 where
-  pub slots : e .slots ≡ counted (a .slots)
-  pub rows : e .rows ≡ counted (a .rows)
-  pub checkpoints : e .checkpoints ≡ counted (a .checkpoints)
-
 -- how many checkpoints n records after base others bring
 abbrev pub windows : ℕ → ℕ → ℕ
 windows base n = (base + n) / 1024 - base / 1024
 
 -- the ends that n records reach, r of them with rows
-unfoldable pub reached : Kind → Ends → ℕ → ℕ → ℕ → Ends
+unfoldable pub reached : Kind → Lengths → ℕ → ℕ → ℕ → Lengths
 reached k old base n r =
     record { slots = old .slots + 2 * n; rows = old .rows + rowWidth k * r; checkpoints = old .checkpoints + checkpointWidth k * windows base n }
 
 -- 13, or the stage with these ends
-pub record Reaches (k : Kind) (slots rows checkpoints : ℕ) (old : Ends) (base n r : ℕ) (d : Decision) : Type 0 where
+pub record Reaches (k : Kind) (slots rows checkpoints : ℕ) (old : Lengths) (base n r : ℕ) (d : Decision) : Type 0 where
   pub number : d .number ≡ refuse (ltb slots (reached k old base n r .slots) || ltb rows (reached k old base n r .rows) || ltb checkpoints (reached k old base n r .checkpoints)) 13
   pub stage : d .number ≡ 0 → d .stage ≡ record { base = base; n = n; old = old; new = reached k old base n r }
   pub few : d .number ≡ 0 → base + n < 2 ^ 64

@@ -12,6 +12,7 @@ use crate::entry::record_at;
 use crate::entry::record_number;
 use crate::entry::value_of;
 use loc_leaf::Kind;
+use loc_leaf::refusal::ACCEPTED;
 
 // Whether the lists of a batch have one length.
 pub fn lists_agree(
@@ -50,7 +51,7 @@ pub fn rows_of(kind: Kind, e: Record) -> usize
 }
 
 // The first refusal of a record, and how many rows the records stage where there is none.
-pub struct Checked {
+pub struct CheckedBatch {
     pub number: u64,
     pub rows: usize,
 }
@@ -62,7 +63,7 @@ pub fn check_batch(
     span_starts: &[u64],
     span_counts: &[u32],
     n: usize,
-) -> Checked
+) -> CheckedBatch
     requires { ⌜ 0 < n ⌝ }
     requires { ⌜ Held kind (batch (now starts) (now lens) (now «span_starts») (now «span_counts»)) n ⌝ }
     ensures { λ r. ⌜ Tested kind (listed (entryAt kind (batch (now (starts .entry)) (now (lens .entry)) (now («span_starts» .entry)) (now («span_counts» .entry)))) 0 n) (r .number) (r .rows) ⌝ }
@@ -73,17 +74,20 @@ pub fn check_batch(
     while i < n {
         let next = record_at(kind, starts, lens, span_starts, span_counts, i);
         let number = record_number(kind, e, next);
-        if number != 0 {
-            return Checked { number, rows: 0 };
+        if number != ACCEPTED {
+            return CheckedBatch { number, rows: 0 };
         }
         rows += rows_of(kind, e);
         e = next;
         i += 1;
     }
     let number = own_number(kind, e);
-    if number != 0 {
-        return Checked { number, rows: 0 };
+    if number != ACCEPTED {
+        return CheckedBatch { number, rows: 0 };
     }
     rows += rows_of(kind, e);
-    Checked { number: 0, rows }
+    CheckedBatch {
+        number: ACCEPTED,
+        rows,
+    }
 }

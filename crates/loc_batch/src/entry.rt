@@ -10,6 +10,11 @@ use crate::Record;
 use loc_leaf::Kind;
 use loc_leaf::Value;
 use loc_leaf::delta_loc::saturating_add;
+use loc_leaf::delta_loc::strides_from_aligned_len;
+use loc_leaf::refusal::ACCEPTED;
+use loc_leaf::refusal::BODY_NOT_CHAINED;
+use loc_leaf::refusal::NO_SPANS;
+use loc_leaf::refusal::SPANS_NOT_CHAINED;
 
 // Each kind reads its own lists: in this form the compiler makes the faster loops.
 pub fn record_at(
@@ -92,12 +97,12 @@ fn break_number(e: Record, next: Record) -> u64
     ensures { λ r. ⌜ r ≡ breaks (asEntry e) (asEntry next ∷ []) ⌝ }
 {
     if next.start != body_after(e) {
-        return 11;
+        return BODY_NOT_CHAINED;
     }
     if next.span_start != span_after(e) {
-        return 12;
+        return SPANS_NOT_CHAINED;
     }
-    0
+    ACCEPTED
 }
 
 // 8, 22, 9 or 10, of a record by itself.
@@ -105,9 +110,9 @@ pub fn own_number(kind: Kind, e: Record) -> u64
     ensures { λ r. ⌜ r ≡ entryRefusal kind (asEntry e) [] ⌝ }
 {
     if is_spanless(kind, e) {
-        return 8;
+        return NO_SPANS;
     }
-    loc_leaf::delta_loc::strides_from_aligned_len(e.len).number
+    strides_from_aligned_len(e.len).number
 }
 
 // 8, 22, 9 to 12, of a record and the one after it.
@@ -115,7 +120,7 @@ pub fn record_number(kind: Kind, e: Record, next: Record) -> u64
     ensures { λ r. ⌜ r ≡ entryRefusal kind (asEntry e) (asEntry next ∷ []) ⌝ }
 {
     let own = own_number(kind, e);
-    if own != 0 {
+    if own != ACCEPTED {
         return own;
     }
     break_number(e, next)

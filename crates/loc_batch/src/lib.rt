@@ -7,6 +7,8 @@ pub mod plan;
 pub mod run;
 pub mod staging;
 
+use loc_store::Lengths;
+
 // One record of a batch.
 pub struct Record {
     pub start: u64,
@@ -15,19 +17,12 @@ pub struct Record {
     pub spans: u32,
 }
 
-// The ends of the three areas.
-pub struct Ends {
-    pub slots: u64,
-    pub rows: u64,
-    pub checkpoints: u64,
-}
-
 // What an append of n records after `base` others is to store: bytes past the old ends, then the new ends.
 pub struct Stage {
     pub base: u64,
     pub n: usize,
-    pub old: Ends,
-    pub new: Ends,
+    pub old: Lengths,
+    pub new: Lengths,
 }
 
 // A refusal, or 0 and the stage.

@@ -6,14 +6,15 @@ ghost use Prim.Native.Nat.{_+_, _-_, _*_, _/_, _≤_, _<_};
 ghost use lib.Dec.{ltb};
 ghost use Rattle.loc_calls.specs.Table.{batch};
 ghost use Rattle.loc_leaf.specs.Area.{fill};
+ghost use Rattle.loc_leaf.specs.Kind.{rowWidth};
 ghost use Rattle.loc_calls.specs.Areas.{areas};
 ghost use Rattle.loc_calls.specs.Calls.{firstRefusal};
 ghost use Rattle.loc_batch.specs.Lists.{entryAt, Held};
-ghost use Rattle.loc_batch.specs.Plans.{TestedOn, EndsOf, Reaches, Planned};
+ghost use Rattle.loc_store.specs.Areas.{Checks};
+ghost use Rattle.loc_batch.specs.Plans.{TestedOn, Reaches, Planned};
 use crate::Decision;
-use crate::Ends;
 use crate::Stage;
-use crate::batch::Checked;
+use crate::batch::CheckedBatch;
 use crate::batch::check_batch;
 use crate::batch::lists_agree;
 use crate::entry::record_at;
@@ -22,21 +23,11 @@ use loc_leaf::Kind;
 use loc_leaf::delta_loc::LOC_WINDOW;
 use loc_leaf::delta_loc::checkpoint_width;
 use loc_leaf::delta_loc::row_width;
-use loc_leaf::file::logical_len;
-use loc_store::plan::piece_count;
-
-fn ends(slots: &[u8], rows: &[u8], checkpoints: &[u8]) -> Ends
-    ensures { λ r. ⌜ EndsOf (areas (now (slots .entry)) (now (rows .entry)) (now (checkpoints .entry))) r ⌝ }
-{
-    let slot_end = logical_len(slots) as u64;
-    let row_end = logical_len(rows) as u64;
-    let checkpoint_end = logical_len(checkpoints) as u64;
-    Ends {
-        slots: slot_end,
-        rows: row_end,
-        checkpoints: checkpoint_end,
-    }
-}
+use loc_leaf::refusal::ACCEPTED;
+use loc_leaf::refusal::LISTS_DIFFER;
+use loc_leaf::refusal::PAST_AREA;
+use loc_store::Checked;
+use loc_store::Lengths;
 
 // Whether n pieces behind an end lie past an area of this size.
 fn past(size: usize, end: u64, width: usize, n: usize) -> bool
@@ -53,7 +44,7 @@ fn reach(
     slots: usize,
     rows: usize,
     checkpoints: usize,
-    old: Ends,
+    old: Lengths,
     base: u64,
     n: usize,
     with_rows: usize,
@@ -71,33 +62,33 @@ fn reach(
     };
     if past(slots, old.slots, 2, n) {
         return Decision {
-            number: 13,
+            number: PAST_AREA,
             stage: none,
         };
     }
     if past(rows, old.rows, row_bytes, with_rows) {
         return Decision {
-            number: 13,
+            number: PAST_AREA,
             stage: none,
         };
     }
     let windows = ((base + n as u64) / LOC_WINDOW - base / LOC_WINDOW) as usize;
     if past(checkpoints, old.checkpoints, checkpoint_bytes, windows) {
         return Decision {
-            number: 13,
+            number: PAST_AREA,
             stage: none,
         };
     }
     let new_slots = old.slots + 2 * n as u64;
     let new_rows = old.rows + row_bytes as u64 * with_rows as u64;
     let new_checkpoints = old.checkpoints + checkpoint_bytes as u64 * windows as u64;
-    let new = Ends {
+    let new = Lengths {
         slots: new_slots,
         rows: new_rows,
         checkpoints: new_checkpoints,
     };
     Decision {
-        number: 0,
+        number: ACCEPTED,
         stage: Stage { base, n, old, new },
     }
 }
@@ -109,42 +100,53 @@ fn check_append(
     rows: &[u8],
     checkpoints: &[u8],
     base: u64,
+    row_count: usize,
     starts: &[u64],
     lens: &[u64],
     span_starts: &[u64],
     span_counts: &[u32],
     n: usize,
-) -> Checked
-    requires { ⌜ (firstRefusal kind (areas (now slots) (now rows) (now checkpoints)) ≡ 0) × (base ≡ fill 2 (now slots)) × (0 < n) ⌝ }
+) -> CheckedBatch
+    requires { ⌜ (firstRefusal kind (areas (now slots) (now rows) (now checkpoints)) ≡ 0) × (base ≡ fill 2 (now slots)) × («row_count» ≡ fill (rowWidth kind) (now rows)) × (0 < n) ⌝ }
     requires { ⌜ Held kind (batch (now starts) (now lens) (now «span_starts») (now «span_counts»)) n ⌝ }
     ensures { λ r. ⌜ TestedOn kind (areas (now (slots .entry)) (now (rows .entry)) (now (checkpoints .entry)))
         (entryAt kind (batch (now (starts .entry)) (now (lens .entry)) (now («span_starts» .entry)) (now («span_counts» .entry)))) n (r .number) (r .rows) ⌝ }
 {
     let e = record_at(kind, starts, lens, span_starts, span_counts, 0);
-    let number = start_refusal(kind, slots, rows, checkpoints, base, e.start, e.span_start);
-    if number != 0 {
-        return Checked { number, rows: 0 };
+    let number = start_refusal(
+        kind,
+        slots,
+        rows,
+        checkpoints,
+        base,
+        row_count,
+        e.start,
+        e.span_start,
+    );
+    if number != ACCEPTED {
+        return CheckedBatch { number, rows: 0 };
     }
     check_batch(kind, starts, lens, span_starts, span_counts, n)
 }
 
-// 7 to 13, 17, 22 to 24, or the stage of the batch.
+// 7 to 13, 17, 22 to 24, or the stage of the batch, on areas of which this was found.
 pub fn plan_append(
     kind: Kind,
     slots: &[u8],
     rows: &[u8],
     checkpoints: &[u8],
+    found: Checked,
     starts: &[u64],
     lens: &[u64],
     span_starts: &[u64],
     span_counts: &[u32],
 ) -> Decision
-    requires { ⌜ firstRefusal kind (areas (now slots) (now rows) (now checkpoints)) ≡ 0 ⌝ }
+    requires { ⌜ Checks kind (areas (now slots) (now rows) (now checkpoints)) found × (found .number ≡ 0) ⌝ }
     ensures { λ r. ⌜ Planned kind (areas (now (slots .entry)) (now (rows .entry)) (now (checkpoints .entry)))
         (batch (now (starts .entry)) (now (lens .entry)) (now («span_starts» .entry)) (now («span_counts» .entry))) r ⌝ }
 {
-    let old = ends(slots, rows, checkpoints);
-    let base = piece_count(slots, 2) as u64;
+    let old = found.ends;
+    let base = found.count;
     let n = lens.len();
     let none = Stage {
         base,
@@ -155,7 +157,7 @@ pub fn plan_append(
     if lists_agree(kind, starts, lens, span_starts, span_counts) {
         if n == 0 {
             return Decision {
-                number: 0,
+                number: ACCEPTED,
                 stage: none,
             };
         }
@@ -165,6 +167,7 @@ pub fn plan_append(
             rows,
             checkpoints,
             base,
+            found.row_count,
             starts,
             lens,
             span_starts,
@@ -172,7 +175,7 @@ pub fn plan_append(
             n,
         );
         let number = checked.number;
-        if number != 0 {
+        if number != ACCEPTED {
             return Decision {
                 number,
                 stage: none,
@@ -191,7 +194,7 @@ pub fn plan_append(
         );
     }
     Decision {
-        number: 7,
+        number: LISTS_DIFFER,
         stage: none,
     }
 }

@@ -10,7 +10,7 @@ use borrow.Author.Tests.{eq-eqb, ne-eqb}
 use Rattle.loc_leaf.specs.declared.Kind.{Kind}
 use Rattle.loc_leaf.specs.declared.Kind.the-variants.{Paired, Single}
 use Rattle.loc_leaf.specs.Bytes.{Bytes}
-use Rattle.loc_leaf.specs.Answers.{refuse, _orElse_}
+use Rattle.loc_leaf.specs.Answers.{refuse}
 use Rattle.loc_leaf.specs.Area.{fill}
 use Rattle.loc_leaf.specs.Kind.{rowWidth, windowOf}
 use Rattle.loc_leaf.proofs.AreaLaws.{counted-le}

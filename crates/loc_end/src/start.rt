@@ -4,6 +4,7 @@ ghost use mathlib.Core.Path.{_≡_};
 ghost use Prim.Native.Nat.{_^_, _<_};
 ghost use Rattle.loc_leaf.specs.Area.{fill};
 ghost use Rattle.loc_leaf.specs.Bytes.{Bytes};
+ghost use Rattle.loc_leaf.specs.Kind.{rowWidth};
 ghost use Rattle.loc_calls.specs.Areas.{areas};
 ghost use Rattle.loc_calls.specs.Table.{Entry, startRefusal};
 ghost use Rattle.loc_calls.specs.Reading.{endRead};
@@ -12,8 +13,11 @@ ghost use Rattle.loc_end.specs.Start.{spanTo, Ends};
 use loc_leaf::Kind;
 use loc_leaf::delta_loc::LOC_WINDOW;
 use loc_leaf::delta_loc::loc_window;
-use loc_leaf::delta_loc::row_count;
 use loc_leaf::delta_loc::saturating_add;
+use loc_leaf::refusal::ACCEPTED;
+use loc_leaf::refusal::BODY_NOT_AT_END;
+use loc_leaf::refusal::ROW_MISSING;
+use loc_leaf::refusal::SPANS_NOT_AT_END;
 use loc_total::window::window_total;
 use loc_window::checkpoint::window_end;
 
@@ -35,18 +39,25 @@ fn span_end(kind: Kind, checkpoints: &[u8], w: u64, spans: u64) -> u64
     }
 }
 
-// Of `count` published records; an empty list ends at 16 as window 0 begins there.
-fn list_end(kind: Kind, slots: &[u8], rows: &[u8], checkpoints: &[u8], count: u64) -> End
-    requires { ⌜ (firstRefusal kind (areas (now slots) (now rows) (now checkpoints)) ≡ 0) × (count ≡ fill 2 (now slots)) ⌝ }
+// Of `count` published records and `row_count` rows; an empty list ends at 16 as window 0 begins there.
+fn list_end(
+    kind: Kind,
+    slots: &[u8],
+    rows: &[u8],
+    checkpoints: &[u8],
+    count: u64,
+    row_count: usize,
+) -> End
+    requires { ⌜ (firstRefusal kind (areas (now slots) (now rows) (now checkpoints)) ≡ 0) × (count ≡ fill 2 (now slots)) × («row_count» ≡ fill (rowWidth kind) (now rows)) ⌝ }
     ensures { λ r. ⌜ Ends kind (areas (now (slots .entry)) (now (rows .entry)) (now (checkpoints .entry))) r ⌝ }
 {
     let w = loc_window(count);
     let first = LOC_WINDOW * w;
     let m = (count - first) as usize;
-    let total = window_total(kind, slots, rows, row_count(kind, rows), first, m);
+    let total = window_total(kind, slots, rows, row_count, first, m);
     if total.lacking != 0 {
         return End {
-            number: 17,
+            number: ROW_MISSING,
             body: 0,
             span: 0,
         };
@@ -54,7 +65,7 @@ fn list_end(kind: Kind, slots: &[u8], rows: &[u8], checkpoints: &[u8], count: u6
     let body = saturating_add(window_end(kind, checkpoints, 0, w), 8 * total.strides);
     let span = span_end(kind, checkpoints, w, total.spans);
     End {
-        number: 0,
+        number: ACCEPTED,
         body,
         span,
     }
@@ -67,22 +78,23 @@ pub fn start_refusal(
     rows: &[u8],
     checkpoints: &[u8],
     count: u64,
+    row_count: usize,
     start: u64,
     span_start: u64,
 ) -> u64
-    requires { ⌜ (firstRefusal kind (areas (now slots) (now rows) (now checkpoints)) ≡ 0) × (count ≡ fill 2 (now slots)) ⌝ }
+    requires { ⌜ (firstRefusal kind (areas (now slots) (now rows) (now checkpoints)) ≡ 0) × (count ≡ fill 2 (now slots)) × («row_count» ≡ fill (rowWidth kind) (now rows)) ⌝ }
     ensures { λ r. ⌜ ((e : Entry) → e .start ≡ start → e .spanStart ≡ «span_start»
         → r ≡ startRefusal (endRead kind (areas (now (slots .entry)) (now (rows .entry)) (now (checkpoints .entry)))) e) ⌝ }
 {
-    let end = list_end(kind, slots, rows, checkpoints, count);
-    if end.number != 0 {
+    let end = list_end(kind, slots, rows, checkpoints, count, row_count);
+    if end.number != ACCEPTED {
         return end.number;
     }
     if start != end.body {
-        return 23;
+        return BODY_NOT_AT_END;
     }
     if span_start != end.span {
-        return 24;
+        return SPANS_NOT_AT_END;
     }
-    0
+    ACCEPTED
 }

@@ -7,9 +7,10 @@ ghost use Rattle.loc_parse.specs.Lists.{Room};
 use loc_batch::run::append_settled;
 use loc_leaf::Answer;
 use loc_leaf::Kind;
+use loc_leaf::refusal::ACCEPTED;
+use loc_leaf::refusal::refused;
 use loc_parse::lines::parse;
-use loc_store::check::call_refusal;
-use loc_store::plan::piece_count;
+use loc_store::check::check_areas;
 
 // With four lists lent for the batch.
 fn append_text(
@@ -27,18 +28,13 @@ fn append_text(
     ensures { λ r. ⌜ Stored (appendListing places (now (text .entry)) (areas (now (slots .entry)) (now (rows .entry)) (now (checkpoints .entry))))
         r (areas (now (slots .exit)) (now (rows .exit)) (now (checkpoints .exit))) ⌝ }
 {
-    let first = call_refusal(Kind::Paired, slots, rows, checkpoints);
-    if first != 0 {
-        return Answer {
-            number: first,
-            value: 0,
-        };
+    let found = check_areas(Kind::Paired, slots, rows, checkpoints);
+    if found.number != ACCEPTED {
+        return refused(found.number);
     }
-    let count = piece_count(slots, 2) as u64;
-    let taken = parse(count, text, starts, lens, span_starts, span_counts);
-    let number = taken.number;
-    if number != 0 {
-        return Answer { number, value: 0 };
+    let taken = parse(found.count, text, starts, lens, span_starts, span_counts);
+    if taken.number != ACCEPTED {
+        return refused(taken.number);
     }
     let n = taken.n;
     append_settled(
@@ -46,6 +42,7 @@ fn append_text(
         slots,
         rows,
         checkpoints,
+        found,
         &starts[..n],
         &lens[..n],
         &span_starts[..n],

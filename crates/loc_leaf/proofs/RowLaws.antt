@@ -3,7 +3,7 @@
 use Prim.Native.Nat.{ℕ, zero, suc, _+_, _-_, _*_, _/_, _≤_, _<_}
 use mathlib.Core.Path.{_≡_, refl, sym, ap, _∙_}
 use mathlib.Core.Logic.{_⊎_, inl, inr, ⊎-elim}
-use mathlib.Core.Bool.{Bool, true, false, cond}
+use mathlib.Core.Bool.{true, false, cond}
 use mathlib.Core.List.{List, [], _∷_}
 use native.Mathlib.Nat.{mul-zero, mul-suc, mul-le-mul-left, add-zero, sub-zero, add-comm, le-antisymm, eq-or-lt-of-le, le-of-suc-le-suc, not-suc-le-zero}
 use native.Mathlib.Omega.{arith}
@@ -14,16 +14,11 @@ use lib.Seq.{take-take, drop-drop}
 use borrow.Author.Tests.{lt-ltb, le-ltb, le-leb, lt-leb, eq-eqb, ne-eqb, ltb-true, ltb-false, leb-true, leb-false, eqb-true, eqb-false}
 use Rattle.loc_leaf.specs.declared.Kind.{Kind}
 use Rattle.loc_leaf.specs.declared.Kind.the-variants.{Paired, Single}
-use Rattle.loc_leaf.specs.declared.Value.{Value}
-use Rattle.loc_leaf.specs.declared.delta_loc.Lookup.{Lookup}
-use Rattle.loc_leaf.specs.declared.delta_loc.Lookup.the-variants.{Found, Missing}
 use Rattle.loc_leaf.specs.Bytes.{Bytes, number, numberAt}
 use Rattle.loc_leaf.specs.Area.{counted, pieces, fill, published}
 use Rattle.loc_leaf.specs.Kind.{rowWidth}
-use Rattle.loc_leaf.specs.Slot.{needsRow, inline}
-use Rattle.loc_leaf.specs.Rows.{rowNumber, rowValue, rowList, ascending, lastNumber, rowsUpTo, rowFor, hasRow, lookup, slotValue, lookupRefusal, valueIn, Looked, halve, numberIn, rowsUpToByHalves, lookupBefore, lookupByHalves, slotValueByHalves}
+use Rattle.loc_leaf.specs.Rows.{rowNumber, rowValue, rowList, ascending, lastNumber, rowsUpTo, rowFor, hasRow, lookup, halve, numberIn, rowsUpToByHalves, lookupBefore, lookupByHalves}
 use Rattle.loc_leaf.proofs.Booleans.{both-left, both-right, is?}
-use Rattle.loc_leaf.proofs.NumberLaws.{part-all}
 use Rattle.loc_leaf.proofs.AreaLaws.{take-drop, counted-le, length-pieces, pieces-get}
 
 -- ---- a row's fields
@@ -174,45 +169,6 @@ module _ (w : ℕ) (wide : 12 ≤ w) (xs : Bytes) (m n : ℕ) where
 
     pub halves-down : n < r → rowsUpToByHalves n rows ≡ halve (numberIn rows) n (lo + (hi - lo) / 2 - lo) lo (lo + (hi - lo) / 2)
     halves-down q = halve-down (numberIn rows) n lo hi _ inv h (lo + (hi - lo) / 2) refl (rw middle q)
-
--- the case that is given has its number and its values
-looked : (r l : Lookup) → r ≡ l → Looked r l
-looked r l e = (ap lookupRefusal e, ap valueIn e)
-
--- the row before the place p that was found, which begins the rest of the area at `at`
-module _ (k : Kind) (xs : Bytes) (n p : ℕ) (e : p ≡ rowsUpToByHalves n (rowList k xs)) where
-  pub lookup-none : p ≡ 0 → Looked Missing (lookupByHalves k n (rowList k xs))
-  unfolding lookupByHalves lookupBefore
-  lookup-none z = looked Missing _ (rw (sym e ∙ z) refl)
-
-  module _ (z : p ≡ 0 → ⊥) (g : p ≤ fill (rowWidth k) xs) (w at r : ℕ) (ew : w ≡ rowWidth k) (wide : 12 ≤ w) (ea : at ≡ 16 + w * (p - 1))
-      (er : r ≡ numberAt 8 0 (take (length xs - at) (drop at xs))) where
-    here : getD (rowList k xs) (p - 1) [] ≡ take w (drop at xs)
-    here =
-        ap (λ (l : List Bytes). getD l (p - 1) []) (rows-are k xs w (fill (rowWidth k) xs) ew refl)
-        ∙ row-there w wide xs (fill (rowWidth k) xs) (p - 1) (omega arith) ∙ ap (λ (i : ℕ). take w (drop i xs)) (sym ea)
-
-    there : lookupByHalves k n (rowList k xs) ≡ cond (eqb r n) (Found (rowValue k (take (length xs - at) (drop at xs)))) Missing
-    unfolding lookupByHalves lookupBefore numberIn
-    there =
-        let m : rowsUpToByHalves n (rowList k xs) ≡ suc (p - 1) = omega arith in
-        rw (m, here, piece-number w (drop at xs) (omega arith), er, part-all at xs)
-        (ap (λ (v : Value). cond (eqb (numberAt 8 0 (drop at xs)) n) (Found v) Missing) (ap (λ (i : ℕ). rowValue k (take i (drop at xs))) ew ∙ piece-value k (drop at xs)))
-
-    pub lookup-found : r ≡ n → (v : Value) → v ≡ rowValue k (take (length xs - at) (drop at xs)) → Looked (Found v) (lookupByHalves k n (rowList k xs))
-    lookup-found q v ev = looked (Found v) _ (rw ev (sym (there ∙ rw (eq-eqb r n q) refl)))
-
-    pub lookup-other : (r ≡ n → ⊥) → Looked Missing (lookupByHalves k n (rowList k xs))
-    lookup-other q = looked Missing _ (sym (there ∙ rw (ne-eqb r n q) refl))
-
-module _ (k : Kind) (rs : List Bytes) (id x y : ℕ) (b : Bool) (e : b ≡ needsRow k (x ∷ y ∷ [])) where
-  pub value-from-row : b ≡ true → (r : Lookup) → Looked r (lookupByHalves k id rs) → Looked r (slotValueByHalves k rs id (x ∷ y ∷ []))
-  unfolding slotValueByHalves
-  value-from-row t r q = rw (← e, t) q
-
-  pub value-inline : b ≡ false → (v : Value) → v ≡ inline k (x ∷ y ∷ []) → Looked (Found v) (slotValueByHalves k rs id (x ∷ y ∷ []))
-  unfolding slotValueByHalves
-  value-inline t v q = looked (Found v) _ (rw (← e, t, q) refl)
 
 -- ---- where rows ascend, halves find what the definitions say
 
@@ -374,7 +330,3 @@ module _ (k : Kind) (rs : List Bytes) (a : ascending 0 rs ≡ true) (n : ℕ) wh
   pub lookup-by-halves : lookupByHalves k n rs ≡ lookup k n rs
   unfolding lookupByHalves
   lookup-by-halves = before-is (rowsUpToByHalves n rs) (by-halves-parts rs a n)
-
-  pub slot-value-by-halves : (s : Bytes) → slotValueByHalves k rs n s ≡ slotValue k rs n s
-  unfolding slotValueByHalves slotValue
-  slot-value-by-halves s = rw lookup-by-halves refl

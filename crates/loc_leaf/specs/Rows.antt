@@ -1,7 +1,6 @@
 -- Overflow rows: their fields, their order, and the row of a record (document 01, "delta_loc.rs, leaf part").
 -- A list of rows is what an area publishes in pieces of the kind's row width.
 use Prim.Native.Nat.{ℕ, zero, suc, _+_, _-_, _/_}
-use mathlib.Core.Path.{_≡_}
 use mathlib.Core.Bool.{Bool, true, false, cond, _&&_, _||_}
 use mathlib.Core.List.{List, [], _∷_, _++_}
 use lib.Dec.{leb, ltb, eqb}
@@ -64,18 +63,10 @@ lookup k n rs = cond (hasRow n rs) (Found (rowValue k (rowFor n rs))) Missing
 unfoldable pub slotValue : Kind → List Bytes → ℕ → Bytes → Lookup
 slotValue k rs id s = cond (needsRow k s) (lookup k id rs) (Found (inline k s))
 
--- document 01's number for each case of a Lookup, and its values: no strides and spans where the row is missing
-unfoldable pub lookupRefusal : Lookup → ℕ
-lookupRefusal (Found v) = 0
-lookupRefusal Missing = 17
-
+-- the values of each case: no strides and spans where the row is missing
 unfoldable pub valueIn : Lookup → Value
 valueIn (Found v) = v
 valueIn Missing = record { strides = 0; spans = 0 }
-
--- what a search promises: number and values of the case that a definition gives
-abbrev pub Looked : Lookup → Lookup → Type 0
-Looked r l = (lookupRefusal r ≡ lookupRefusal l) × (valueIn r ≡ valueIn l)
 
 -- ---- the search by halves: what it gives for any rows; where they ascend, rowsUpTo and lookup (proofs/RowLaws)
 
@@ -101,6 +92,3 @@ lookupBefore k n rs (suc p) = cond (eqb (numberIn rs p) n) (Found (rowValue k (g
 
 unfoldable pub lookupByHalves : Kind → ℕ → List Bytes → Lookup
 lookupByHalves k n rs = lookupBefore k n rs (rowsUpToByHalves n rs)
-
-unfoldable pub slotValueByHalves : Kind → List Bytes → ℕ → Bytes → Lookup
-slotValueByHalves k rs id s = cond (needsRow k s) (lookupByHalves k id rs) (Found (inline k s))

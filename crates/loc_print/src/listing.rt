@@ -1,21 +1,16 @@
 // The whole listing of a paired index, window after window.
 // Nothing of the index is changed.
 ghost use mathlib.Core.Path.{_≡_};
-ghost use Prim.Native.Nat.{_+_, _*_, _≤_, _<_, min};
+ghost use Prim.Native.Nat.{_+_, _*_, _≤_, _<_};
 ghost use lib.ListN.{length};
 ghost use Rattle.loc_leaf.specs.Area.{fill};
 ghost use Rattle.loc_calls.specs.Areas.{areas};
 ghost use Rattle.loc_listing.specs.Text.{Put};
 ghost use Rattle.loc_print.specs.Printed.{printed, listingText};
 use crate::window::put_window;
+use loc_leaf::delta_loc::lesser;
+use loc_leaf::file::published;
 use loc_listing::names::names_text;
-use loc_store::plan::piece_count;
-
-fn least(a: u64, b: u64) -> u64
-    ensures { λ r. ⌜ r ≡ min a b ⌝ }
-{
-    if a < b { a } else { b }
-}
 
 // The line of names, then the windows of all `count` records, or of those before a refusal.
 fn put_windows(
@@ -34,7 +29,7 @@ fn put_windows(
     let mut at = names_text(out);
     let mut done: u64 = 0;
     while done < count {
-        let n = least(count - done, 1024);
+        let n = lesser(count - done, 1024);
         let window = put_window(
             slots,
             rows,
@@ -59,7 +54,7 @@ pub fn listing_text(slots: &[u8], rows: &[u8], checkpoints: &[u8], out: &mut [u8
     ensures { λ r. ⌜ Put (now (out .entry)) 0 (listingText (areas (now (slots .entry)) (now (rows .entry)) (now (checkpoints .entry))) (length (now (out .entry)))) (now (out .exit)) r
         × (r ≤ length (now (out .entry))) ⌝ }
 {
-    let count = piece_count(slots, 2);
+    let count = published(slots, 2).count;
     if out.len() < 53 {
         return 0;
     }

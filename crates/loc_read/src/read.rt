@@ -3,6 +3,7 @@
 ghost use mathlib.Core.Path.{_≡_};
 ghost use Prim.Native.Nat.{_*_, _≤_};
 ghost use lib.ListN.{length, replicate};
+ghost use Rattle.loc_leaf.specs.Area.{fill};
 ghost use Rattle.loc_calls.specs.Areas.{areas};
 ghost use Rattle.loc_calls.specs.Table.{wordWidth, read};
 ghost use Rattle.loc_calls.specs.Calls.{call};
@@ -14,11 +15,14 @@ use loc_answer::put::copy_words;
 use loc_answer::words::word_width;
 use loc_leaf::Answer;
 use loc_leaf::Kind;
-use loc_leaf::delta_loc::row_width;
+use loc_leaf::refusal::ACCEPTED;
+use loc_leaf::refusal::ANSWERS_TOO_SHORT;
+use loc_leaf::refusal::TOO_MANY_NUMBERS;
+use loc_leaf::refusal::accepted;
+use loc_leaf::refusal::refused;
 use loc_order::keys::plan_range_batch;
 use loc_runs::runs::one_window;
-use loc_store::check::call_refusal;
-use loc_store::plan::piece_count;
+use loc_store::check::check_areas;
 
 // The reading in arrays that are long enough.
 fn read_with(
@@ -26,19 +30,19 @@ fn read_with(
     slots: &[u8],
     rows: &[u8],
     checkpoints: &[u8],
+    count: u64,
+    row_count: usize,
     wanted: &[u64],
     keys: &mut [u64],
     spare: &mut [u64],
     stage: &mut [u64],
     answers: &mut [u64],
 ) -> Answer
-    requires { ⌜ Tested kind (areas (now slots) (now rows) (now checkpoints)) (now wanted) (now answers) ⌝ }
+    requires { ⌜ Tested kind (areas (now slots) (now rows) (now checkpoints)) «row_count» (now wanted) (now answers) × (count ≡ fill 2 (now slots)) ⌝ }
     requires { ⌜ (length (now wanted) ≤ length (now keys)) × (length (now wanted) ≤ length (now spare)) × (wordWidth kind * length (now wanted) ≤ length (now stage)) × (now stage ≡ replicate (length (now stage)) 0) ⌝ }
     ensures { λ r. ⌜ Read (call kind 0 (read (now (wanted .entry)) (now (answers .entry))) (areas (now (slots .entry)) (now (rows .entry)) (now (checkpoints .entry))))
         r (now (answers .exit)) ⌝ }
 {
-    let count = piece_count(slots, 2) as u64;
-    let row_count = piece_count(rows, row_width(kind));
     let found = plan_range_batch(wanted, count, keys, spare);
     let number = finish_range_batch(
         kind,
@@ -51,14 +55,11 @@ fn read_with(
         &keys[..found],
         stage,
     );
-    if number != 0 {
-        return Answer { number, value: 0 };
+    if number != ACCEPTED {
+        return refused(number);
     }
     copy_words(stage, word_width(kind) * wanted.len(), answers);
-    Answer {
-        number: 0,
-        value: found as u64,
-    }
+    accepted(found as u64)
 }
 
 // Up to 32 numbers: small arrays, since clearing large ones would take longer than the reading.
@@ -67,10 +68,12 @@ fn read_few(
     slots: &[u8],
     rows: &[u8],
     checkpoints: &[u8],
+    count: u64,
+    row_count: usize,
     wanted: &[u64],
     answers: &mut [u64],
 ) -> Answer
-    requires { ⌜ Tested kind (areas (now slots) (now rows) (now checkpoints)) (now wanted) (now answers) × (length (now wanted) ≤ 32) ⌝ }
+    requires { ⌜ Tested kind (areas (now slots) (now rows) (now checkpoints)) «row_count» (now wanted) (now answers) × (count ≡ fill 2 (now slots)) × (length (now wanted) ≤ 32) ⌝ }
     ensures { λ r. ⌜ Read (call kind 0 (read (now (wanted .entry)) (now (answers .entry))) (areas (now (slots .entry)) (now (rows .entry)) (now (checkpoints .entry))))
         r (now (answers .exit)) ⌝ }
 {
@@ -82,6 +85,8 @@ fn read_few(
         slots,
         rows,
         checkpoints,
+        count,
+        row_count,
         wanted,
         &mut keys,
         &mut spare,
@@ -96,10 +101,12 @@ fn read_many(
     slots: &[u8],
     rows: &[u8],
     checkpoints: &[u8],
+    count: u64,
+    row_count: usize,
     wanted: &[u64],
     answers: &mut [u64],
 ) -> Answer
-    requires { ⌜ Tested kind (areas (now slots) (now rows) (now checkpoints)) (now wanted) (now answers) ⌝ }
+    requires { ⌜ Tested kind (areas (now slots) (now rows) (now checkpoints)) «row_count» (now wanted) (now answers) × (count ≡ fill 2 (now slots)) ⌝ }
     ensures { λ r. ⌜ Read (call kind 0 (read (now (wanted .entry)) (now (answers .entry))) (areas (now (slots .entry)) (now (rows .entry)) (now (checkpoints .entry))))
         r (now (answers .exit)) ⌝ }
 {
@@ -111,6 +118,8 @@ fn read_many(
         slots,
         rows,
         checkpoints,
+        count,
+        row_count,
         wanted,
         &mut keys,
         &mut spare,
@@ -119,29 +128,58 @@ fn read_many(
     )
 }
 
-// What is left once 1, 6, 15 and 16 are tested: numbers of one window, a few numbers, or many.
+// What is left once 1, 6, 15 and 16 are tested, of areas with so many records and rows: numbers of one window, a few numbers, or many.
 fn read_tested(
     kind: Kind,
     slots: &[u8],
     rows: &[u8],
     checkpoints: &[u8],
+    count: u64,
+    row_count: usize,
     wanted: &[u64],
     answers: &mut [u64],
 ) -> Answer
-    requires { ⌜ Tested kind (areas (now slots) (now rows) (now checkpoints)) (now wanted) (now answers) ⌝ }
+    requires { ⌜ Tested kind (areas (now slots) (now rows) (now checkpoints)) «row_count» (now wanted) (now answers) × (count ≡ fill 2 (now slots)) ⌝ }
     ensures { λ r. ⌜ Read (call kind 0 (read (now (wanted .entry)) (now (answers .entry))) (areas (now (slots .entry)) (now (rows .entry)) (now (checkpoints .entry))))
         r (now (answers .exit)) ⌝ }
 {
     let mut mark = [0u64; 128];
-    let count = piece_count(slots, 2) as u64;
     let m = one_window(kind, count, wanted, &mut mark);
     if m != 0 {
-        return read_window(kind, slots, rows, checkpoints, wanted, m, &mark, answers);
+        return read_window(
+            kind,
+            slots,
+            rows,
+            checkpoints,
+            row_count,
+            wanted,
+            m,
+            &mark,
+            answers,
+        );
     }
     if wanted.len() <= 32 {
-        return read_few(kind, slots, rows, checkpoints, wanted, answers);
+        return read_few(
+            kind,
+            slots,
+            rows,
+            checkpoints,
+            count,
+            row_count,
+            wanted,
+            answers,
+        );
     }
-    read_many(kind, slots, rows, checkpoints, wanted, answers)
+    read_many(
+        kind,
+        slots,
+        rows,
+        checkpoints,
+        count,
+        row_count,
+        wanted,
+        answers,
+    )
 }
 
 // 1, 6; 15, 16, 17; then the answers. The value is how many of the wanted numbers are found.
@@ -156,22 +194,25 @@ pub fn range_batch(
     ensures { λ r. ⌜ Read (call kind 0 (read (now (wanted .entry)) (now (answers .entry))) (areas (now (slots .entry)) (now (rows .entry)) (now (checkpoints .entry))))
         r (now (answers .exit)) ⌝ }
 {
-    let number = call_refusal(kind, slots, rows, checkpoints);
-    if number != 0 {
-        return Answer { number, value: 0 };
+    let checked = check_areas(kind, slots, rows, checkpoints);
+    if checked.number != ACCEPTED {
+        return refused(checked.number);
     }
     let n = wanted.len();
     if 1024 < n {
-        return Answer {
-            number: 15,
-            value: 0,
-        };
+        return refused(TOO_MANY_NUMBERS);
     }
     if answers.len() < word_width(kind) * n {
-        return Answer {
-            number: 16,
-            value: 0,
-        };
+        return refused(ANSWERS_TOO_SHORT);
     }
-    read_tested(kind, slots, rows, checkpoints, wanted, answers)
+    read_tested(
+        kind,
+        slots,
+        rows,
+        checkpoints,
+        checked.count,
+        checked.row_count,
+        wanted,
+        answers,
+    )
 }

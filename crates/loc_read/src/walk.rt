@@ -13,6 +13,8 @@ use loc_leaf::Kind;
 use loc_leaf::delta_loc::LOC_WINDOW;
 use loc_leaf::delta_loc::loc_window;
 use loc_leaf::file::FILE_HEADER_LEN;
+use loc_leaf::refusal::ACCEPTED;
+use loc_leaf::refusal::ROW_MISSING;
 use loc_runs::runs::run_at;
 use loc_runs::runs::wanted_by;
 use loc_window::Step;
@@ -40,7 +42,7 @@ pub fn finish_range_batch(
     let mut body = [0u64; 1025];
     let mut span = [0u64; 1025];
     let mut mark = [0u64; 128];
-    let mut number: u64 = 0;
+    let mut number = ACCEPTED;
     let mut i: usize = 0;
     'windows: while i < keys.len() {
         let stamp = i as u64 + 1;
@@ -83,7 +85,7 @@ pub fn finish_range_batch(
                     block = t.block;
                 }
                 Step::Lack => {
-                    number = 17;
+                    number = ROW_MISSING;
                     break 'windows;
                 }
             }

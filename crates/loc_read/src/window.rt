@@ -18,9 +18,10 @@ use loc_leaf::Answer;
 use loc_leaf::Kind;
 use loc_leaf::delta_loc::LOC_WINDOW;
 use loc_leaf::delta_loc::loc_window;
-use loc_leaf::delta_loc::row_width;
 use loc_leaf::file::FILE_HEADER_LEN;
-use loc_store::plan::piece_count;
+use loc_leaf::refusal::ROW_MISSING;
+use loc_leaf::refusal::accepted;
+use loc_leaf::refusal::refused;
 use loc_window::Step;
 use loc_window::checkpoint::window_end;
 use loc_window::window::copy_slots;
@@ -84,12 +85,13 @@ pub fn read_window(
     slots: &[u8],
     rows: &[u8],
     checkpoints: &[u8],
+    row_count: usize,
     wanted: &[u64],
     m: usize,
     mark: &[u64],
     answers: &mut [u64],
 ) -> Answer
-    requires { ⌜ Tested kind (areas (now slots) (now rows) (now checkpoints)) (now wanted) (now answers) ⌝ }
+    requires { ⌜ Tested kind (areas (now slots) (now rows) (now checkpoints)) «row_count» (now wanted) (now answers) ⌝ }
     requires { ⌜ (length (now mark) ≡ 128) × OneRun kind (fill 2 (now slots)) (now wanted) m (now mark) ⌝ }
     ensures { λ r. ⌜ Read (call kind 0 (read (now (wanted .entry)) (now (answers .entry))) (areas (now (slots .entry)) (now (rows .entry)) (now (checkpoints .entry))))
         r (now (answers .exit)) ⌝ }
@@ -97,7 +99,6 @@ pub fn read_window(
     let mut bytes = [0u8; 2048];
     let mut body = [0u64; 1025];
     let mut span = [0u64; 1025];
-    let row_count = piece_count(rows, row_width(kind));
     let w = loc_window(wanted[0]);
     let first = LOC_WINDOW * w;
     copy_slots(
@@ -120,14 +121,7 @@ pub fn read_window(
         let body_end = window_end(kind, checkpoints, 0, w);
         let span_end = window_end(kind, checkpoints, 8, w);
         put_window(kind, wanted, body_end, span_end, &body, &span, answers);
-        let n = wanted.len() as u64;
-        return Answer {
-            number: 0,
-            value: n,
-        };
+        return accepted(wanted.len() as u64);
     }
-    Answer {
-        number: 17,
-        value: 0,
-    }
+    refused(ROW_MISSING)
 }

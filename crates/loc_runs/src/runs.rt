@@ -12,28 +12,18 @@ ghost use Rattle.loc_runs.specs.Runs.{IsRun, OneRun};
 use crate::Run;
 use loc_leaf::Kind;
 use loc_leaf::delta_loc::LOC_WINDOW;
+use loc_leaf::delta_loc::larger;
+use loc_leaf::delta_loc::lesser;
 use loc_leaf::delta_loc::loc_window;
 use loc_leaf::delta_loc::loc_within;
 use loc_order::keys::in_range;
-use loc_order::larger as larger_number;
-
-fn larger(a: usize, b: usize) -> usize
-    ensures { λ r. ⌜ r ≡ max a b ⌝ }
-{
-    if a < b { b } else { a }
-}
 
 // The records of a number's window up to the count.
 fn window_rest(count: u64, id: u64) -> usize
     requires { ⌜ (0 < id) × (id ≤ count) ⌝ }
     ensures { λ r. ⌜ r ≡ min 1024 (count - before id) ⌝ }
 {
-    let rest = count - LOC_WINDOW * loc_window(id);
-    if rest < LOC_WINDOW {
-        rest as usize
-    } else {
-        1024
-    }
+    lesser(count - LOC_WINDOW * loc_window(id), LOC_WINDOW) as usize
 }
 
 // How many records of its window a reading of a number looks at.
@@ -61,7 +51,7 @@ fn mark_block(kind: Kind, count: u64, id: u64, m: usize, stamp: u64, mark: &mut 
     ensures { λ r. ⌜ (r ≡ max m (lookedAt kind count id)) × (now (mark .exit) ≡ set (now (mark .entry)) (withinWindow id / 8) stamp) ⌝ }
 {
     mark[loc_within(id) / 8] = stamp;
-    larger(m, looked_at(kind, count, id))
+    larger(m as u64, looked_at(kind, count, id) as u64) as usize
 }
 
 // The run of keys from a place on whose numbers lie in the window of the first.
@@ -124,7 +114,7 @@ pub fn one_window(kind: Kind, count: u64, wanted: &[u64], mark: &mut [u64]) -> u
             let next = wanted[p];
             if in_window(next, count, w) {
                 mark[loc_within(next) / 8] = 1;
-                most = larger_number(most, next);
+                most = larger(most, next);
                 p += 1;
             } else {
                 return 0;

@@ -15,8 +15,11 @@ use crate::Part;
 use crate::find::find;
 use loc_calls::SpanAt;
 use loc_leaf::Kind;
-use loc_store::check::call_refusal;
-use loc_store::plan::piece_count;
+use loc_leaf::delta_loc::lesser;
+use loc_leaf::refusal::ACCEPTED;
+use loc_leaf::refusal::ADDRESS_NOT_HELD;
+use loc_leaf::refusal::ROW_MISSING;
+use loc_store::check::check_areas;
 use loc_whole::totals::totals;
 use loc_window::Step;
 use loc_window::checkpoint::window_end;
@@ -40,8 +43,7 @@ fn quarter_rest(count: u64, q: u64) -> usize
     requires { ⌜ 256 * q < count ⌝ }
     ensures { λ r. ⌜ r ≡ min 256 (count - 256 * q) ⌝ }
 {
-    let rest = count - QUARTER * q;
-    if rest < QUARTER { rest as usize } else { 256 }
+    lesser(count - QUARTER * q, QUARTER) as usize
 }
 
 // The spans of a window before the quarter that follows q, with those of q: none where a window begins.
@@ -90,7 +92,7 @@ fn first_crossing(
     requires { ⌜ found ≡ crossingAfter (areas (now slots) (now rows) (now checkpoints)) address 0 (256 * q) ⌝ }
     ensures { λ r. ⌜ r ≡ crossingAfter (areas (now (slots .entry)) (now (rows .entry)) (now (checkpoints .entry))) address 0 (256 * q + m) ⌝ }
 {
-    if found.number == 0 {
+    if found.number == ACCEPTED {
         return found;
     }
     let start = window_end(Kind::Paired, checkpoints, 8, q / 4);
@@ -106,7 +108,7 @@ fn first_crossing(
         let index = found_span.index;
         let remainder = at % 8;
         return SpanAt {
-            number: 0,
+            number: ACCEPTED,
             record: found_span.record,
             index,
             remainder,
@@ -130,7 +132,7 @@ fn span_in(
     requires { ⌜ (0 ≡ firstRefusal Paired (areas (now slots) (now rows) (now checkpoints))) × Readable Paired (areas (now slots) (now rows) (now checkpoints)) count «row_count» × Lent (now mark) (now body) (now span) ⌝ }
     ensures { λ r. ⌜ r ≡ spanAt (areas (now (slots .entry)) (now (rows .entry)) (now (checkpoints .entry))) address ⌝ }
 {
-    let mut found = refused(21);
+    let mut found = refused(ADDRESS_NOT_HELD);
     let mut row: usize = 0;
     let mut before: u64 = 0;
     let mut q: u64 = 0;
@@ -171,7 +173,7 @@ fn span_in(
                 q += 1;
             }
             Step::Lack => {
-                return refused(17);
+                return refused(ROW_MISSING);
             }
         }
     }
@@ -182,21 +184,19 @@ fn span_in(
 pub fn span_at(slots: &[u8], rows: &[u8], checkpoints: &[u8], address: u64) -> SpanAt
     ensures { λ r. ⌜ r ≡ spanAt (areas (now (slots .entry)) (now (rows .entry)) (now (checkpoints .entry))) address ⌝ }
 {
-    let number = call_refusal(Kind::Paired, slots, rows, checkpoints);
-    if number != 0 {
-        return refused(number);
+    let checked = check_areas(Kind::Paired, slots, rows, checkpoints);
+    if checked.number != ACCEPTED {
+        return refused(checked.number);
     }
     let mark = [0u64; 128];
     let mut body = [0u64; 257];
     let mut span = [0u64; 257];
-    let count = piece_count(slots, 2) as u64;
-    let row_count = piece_count(rows, 16);
     span_in(
         slots,
         rows,
         checkpoints,
-        count,
-        row_count,
+        checked.count,
+        checked.row_count,
         address,
         &mark,
         &mut body,

@@ -1,37 +1,21 @@
 -- What is planned, in the form in which the code meets it, and that it is what loc_calls says.
 -- Areas hold 16 bytes and rows ascend where that is a premise.
 use Prim.Native.Nat.{ℕ, _+_, _-_, _*_, _/_, _^_, _≤_, _<_}
-use mathlib.Core.Path.{_≡_, refl, sym}
+use mathlib.Core.Path.{_≡_, refl}
 use mathlib.Core.Bool.{true}
-use native.Mathlib.Nat.{zero-div, mul-comm, div-mul-le-self, mul-le-mul-left, mul-le-mul-right}
+use native.Mathlib.Nat.{mul-le-mul-left, mul-le-mul-right}
 use native.Mathlib.Omega.{arith}
 use lib.ListN.{length, take, drop}
 use borrow.Author.Tests.{lt-ltb, le-ltb, le-leb, lt-leb}
 use Rattle.loc_leaf.specs.declared.Kind.{Kind}
 use Rattle.loc_leaf.specs.Bytes.{Bytes, numberAt}
-use Rattle.loc_leaf.specs.Area.{counted, fill}
+use Rattle.loc_leaf.specs.Area.{fill}
 use Rattle.loc_leaf.specs.Kind.{rowWidth, checkpointWidth}
 use Rattle.loc_leaf.specs.Rows.{rowList, ascending, rowsUpToByHalves}
-use Rattle.loc_leaf.specs.Slot.{checkpointRule}
 use Rattle.loc_leaf.specs.Cut.{cutFor}
-use Rattle.loc_leaf.proofs.AreaLaws.{counted-le}
 use Rattle.loc_leaf.proofs.RowLaws.{rows-room, up-to-by-halves}
 use Rattle.loc_store.specs.declared.Lengths.{Lengths}
 use Rattle.loc_store.specs.Plans.{lengthsFor, numberBefore, cutPast}
-
--- ---- pieces
-
-module _ (w : ℕ) (xs : Bytes) (end : ℕ) (e : end ≡ counted xs) where
-  pub pieces-none : end < 16 → 0 ≡ fill w xs
-  unfolding fill
-  pieces-none h = let z : counted xs - 16 ≡ 0 = omega arith in rw z (sym (zero-div w))
-
-  pub pieces-some : (end - 16) / w ≡ fill w xs
-  unfolding fill
-  pieces-some = rw e refl
-
-  pub pieces-room : w * ((end - 16) / w) ≤ length xs - 16
-  pieces-room = omega (arith, mul-comm w ((end - 16) / w), div-mul-le-self (end - 16) w, counted-le xs)
 
 -- ---- lengths
 
@@ -50,10 +34,6 @@ unfolding lengthsFor
 lengths-are k xs n w v p ew ev ep a = rw (ew, ev, ep, up-to-by-halves (rowList k xs) a n) refl
 
 -- ---- the two rules
-
-pub ruled-count : (k : Kind) (s c : Bytes) (n w m r : ℕ) → n ≡ fill 2 s → w ≡ checkpointWidth k → m ≡ fill w c → r ≡ checkpointRule n m
-    → r ≡ checkpointRule (fill 2 s) (fill (checkpointWidth k) c)
-ruled-count k s c n w m r en ew em e = rw (← en, ← ew, ← em) e
 
 pub number-none : (k : Kind) (xs : Bytes) (end : ℕ) → end ≤ 16 → 0 ≡ numberBefore k xs end
 unfolding numberBefore

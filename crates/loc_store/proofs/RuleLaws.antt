@@ -25,7 +25,8 @@ use Rattle.loc_calls.specs.Areas.{Areas, count, areas}
 use Rattle.loc_calls.specs.Stores.{truncatePlaces, nextRow, holdsNext, cutRule, ruledCount, ruled}
 use Rattle.loc_store.specs.declared.Lengths.{Lengths}
 use Rattle.loc_store.specs.declared.Rules.{Rules}
-use Rattle.loc_store.specs.Areas.{HoldHeaders}
+use Rattle.loc_store.specs.declared.Published.{Published}
+use Rattle.loc_store.specs.Areas.{HoldHeaders, Publishes}
 use Rattle.loc_store.specs.Plans.{fitted, lengthsFor, placeAt, lengthPlaces, rulesFor, numberBefore, cutPast}
 use Rattle.loc_store.proofs.PlanLaws.{kept-room}
 use Rattle.loc_store.proofs.StoreLaws.{run-three}
@@ -102,7 +103,7 @@ module _ (k : Kind) (xs : Bytes) (p : ℕ) (h : p ≤ fill (rowWidth k) xs) (g :
   row-before q e =
       rw (back (rowWidth k) p q e, drop-fitted end xs (16 + rowWidth k * (p - 1)) (omega arith)) refl
 
-  rows-last : lastNumber 0 (rowList k (fitted end xs)) ≡ numberBefore k xs end
+  pub rows-last : lastNumber 0 (rowList k (fitted end xs)) ≡ numberBefore k xs end
   unfolding numberBefore
   rows-last = by p refl
     where
@@ -115,7 +116,10 @@ module _ (k : Kind) (xs : Bytes) (p : ℕ) (h : p ≤ fill (rowWidth k) xs) (g :
 -- ---- what is left by the checkpoint rule's truncation to n records, and what the cut rule keeps of it
 
 module _ (k : Kind) (s r c : Bytes) (g : HoldHeaders (areas s r c)) (ls : length s < 2 ^ 64) (lr : length r < 2 ^ 64) (asc : ascending 0 (rowList k r) ≡ true)
-    (n : ℕ) (en : n ≡ checkpointRule (fill 2 s) (fill (checkpointWidth k) c)) (room : 2 * n ≤ length s - 16) where
+    (p : Published) (q : Publishes k (areas s r c) p) (n : ℕ) (rule : n ≡ checkpointRule (p .slots .count) (p .checkpoints .count)) (few : n ≤ p .slots .count) where
+  en : n ≡ checkpointRule (fill 2 s) (fill (checkpointWidth k) c)
+  en = rule ∙ rw (q .slots .count, q .checkpoints .count) refl
+
   abbrev kept : ℕ
   kept = rowsUpTo n (rowList k r)
 
@@ -131,7 +135,7 @@ module _ (k : Kind) (s r c : Bytes) (g : HoldHeaders (areas s r c)) (ls : length
 
   slots-fill : fill 2 (fitted (16 + 2 * n) s) ≡ n
   unfolding fill
-  slots-fill = rw (counted-fitted (16 + 2 * n) s (omega arith) (omega (arith, g .slotsHold)) ls) (omega arith)
+  slots-fill = rw (counted-fitted (16 + 2 * n) s (omega arith) (omega (arith, g .slotsHold, q .slots .room)) ls) (omega arith)
 
   cut-is : cutRule k (ruled k (areas s r c)) ≡ cutPast k s r n rowEnd
   unfolding cutRule holdsNext nextRow count cutPast
@@ -164,3 +168,8 @@ module _ (k : Kind) (s r c : Bytes) (g : HoldHeaders (areas s r c)) (ls : length
 
       cut : lengthsFor k m r ≡ lengthsFor k (cutRule k (ruled k (areas s r c))) (ruled k (areas s r c) .rows)
       cut = sym (lengths-same m h) ∙ ap (λ (i : ℕ). lengthsFor k i (fitted rowEnd r)) keeps ∙ ap (λ (x : Areas). lengthsFor k (cutRule k (ruled k (areas s r c))) (x .rows)) (sym ruled-is)
+
+  -- where the cut rule keeps as many, its lengths are the same
+  pub rules-same : (t : Lengths) (m : ℕ) → t ≡ lengthsFor k n r → m ≡ cutPast k s r n (t .rows) → m ≡ n
+      → _≡_ {A = Rules} (record { checkpoint = t; cut = t }) (rulesFor k (areas s r c))
+  rules-same t m et em h = rules-are t t m et em (omega arith) (et ∙ ap (λ (i : ℕ). lengthsFor k i r) (sym h))

@@ -1,20 +1,29 @@
 // The refusals 1 to 5, and the check of number 6.
 // Of an inner crate; nothing is stored here.
 ghost use mathlib.Core.Path.{_≡_};
-ghost use mathlib.Core.Bool.{not};
-ghost use Prim.Native.Nat.{_<_};
-ghost use Rattle.loc_calls.specs.Stores.{ragged, anyStores, openRefusal, settled};
-ghost use Rattle.loc_calls.specs.Calls.{tooSmall, firstRefusal};
+ghost use Rattle.loc_leaf.specs.Bytes.{Bytes};
 ghost use Rattle.loc_calls.specs.Areas.{areas};
-ghost use Rattle.loc_store.specs.Areas.{HoldHeaders};
-ghost use Rattle.loc_store.specs.Plans.{lengthPlaces};
+ghost use Rattle.loc_calls.specs.Stores.{openRefusal};
+ghost use Rattle.loc_calls.specs.Calls.{tooSmall, firstRefusal};
+ghost use Rattle.loc_store.specs.Areas.{Publishes, Checks};
+use crate::Checked;
 use crate::Lengths;
-use crate::plan::rules;
+use crate::Published;
+use crate::plan::cut_count;
+use crate::plan::number_before;
 use loc_leaf::Kind;
+use loc_leaf::delta_loc::LOC_WINDOW;
 use loc_leaf::delta_loc::checkpoint_width;
 use loc_leaf::delta_loc::row_width;
 use loc_leaf::file::FILE_HEADER_LEN;
-use loc_leaf::file::logical_len;
+use loc_leaf::file::published;
+use loc_leaf::refusal::ACCEPTED;
+use loc_leaf::refusal::AREA_TOO_SMALL;
+use loc_leaf::refusal::CHECKPOINTS_NOT_WHOLE;
+use loc_leaf::refusal::NOT_OPENED;
+use loc_leaf::refusal::ROWS_NOT_ASCENDING;
+use loc_leaf::refusal::ROWS_NOT_WHOLE;
+use loc_leaf::refusal::SLOTS_ODD;
 use loc_rows::rows_ascend;
 
 // 1: an area under 16 bytes.
@@ -30,81 +39,82 @@ pub fn too_small(slots: &[u8], rows: &[u8], checkpoints: &[u8]) -> bool
     checkpoints.len() < FILE_HEADER_LEN
 }
 
-// Whether the published bytes are no whole number of pieces.
-fn ragged(area: &[u8], width: usize) -> bool
-    requires { ⌜ 0 < width ⌝ }
-    ensures { λ r. ⌜ r ≡ ragged width (now (area .entry)) ⌝ }
+pub fn published_areas(kind: Kind, slots: &[u8], rows: &[u8], checkpoints: &[u8]) -> Published
+    ensures { λ r. ⌜ Publishes kind (areas (now (slots .entry)) (now (rows .entry)) (now (checkpoints .entry))) r ⌝ }
 {
-    let end = logical_len(area);
-    if end < FILE_HEADER_LEN {
-        return false;
+    let slot_pieces = published(slots, 2);
+    let row_pieces = published(rows, row_width(kind));
+    let checkpoint_pieces = published(checkpoints, checkpoint_width(kind));
+    Published {
+        slots: slot_pieces,
+        rows: row_pieces,
+        checkpoints: checkpoint_pieces,
     }
-    (end - FILE_HEADER_LEN) % width != 0
 }
 
 // 2 to 5 in order, 0 where opening accepts.
-pub fn open_refusal(kind: Kind, slots: &[u8], rows: &[u8], checkpoints: &[u8]) -> u64
-    ensures { λ r. ⌜ r ≡ openRefusal kind (areas (now (slots .entry)) (now (rows .entry)) (now (checkpoints .entry))) ⌝ }
+pub fn open_refusal(kind: Kind, rows: &[u8], p: Published) -> u64
+    ensures { λ r. ⌜ ((s c : Bytes) → Publishes kind (areas s (now (rows .entry)) c) p → r ≡ openRefusal kind (areas s (now (rows .entry)) c)) ⌝ }
 {
-    if ragged(slots, 2) {
-        return 2;
+    if p.slots.left != 0 {
+        return SLOTS_ODD;
     }
-    if ragged(checkpoints, checkpoint_width(kind)) {
-        return 3;
+    if p.checkpoints.left != 0 {
+        return CHECKPOINTS_NOT_WHOLE;
     }
-    if ragged(rows, row_width(kind)) {
-        return 4;
+    if p.rows.left != 0 {
+        return ROWS_NOT_WHOLE;
     }
     if rows_ascend(kind, rows) {
-        return 0;
+        return ACCEPTED;
     }
-    5
+    ROWS_NOT_ASCENDING
 }
 
-// Whether these lengths are the counted ones, so that a truncation to them stores nothing.
-fn stands(lengths: Lengths, slots: &[u8], rows: &[u8], checkpoints: &[u8]) -> bool
-    ensures { λ r. ⌜ r ≡ not (anyStores (lengthPlaces lengths (areas (now (slots .entry)) (now (rows .entry)) (now (checkpoints .entry))))) ⌝ }
-{
-    let checkpoint_end = logical_len(checkpoints) as u64;
-    if lengths.checkpoints != checkpoint_end {
-        return false;
-    }
-    let row_end = logical_len(rows) as u64;
-    if lengths.rows != row_end {
-        return false;
-    }
-    let slot_end = logical_len(slots) as u64;
-    lengths.slots == slot_end
-}
-
-// Whether opening would neither refuse nor change a stored length.
-fn settled(kind: Kind, slots: &[u8], rows: &[u8], checkpoints: &[u8]) -> bool
-    requires { ⌜ HoldHeaders (areas (now slots) (now rows) (now checkpoints)) ⌝ }
-    ensures { λ r. ⌜ r ≡ settled kind (areas (now (slots .entry)) (now (rows .entry)) (now (checkpoints .entry))) ⌝ }
-{
-    let number = open_refusal(kind, slots, rows, checkpoints);
-    if number != 0 {
-        return false;
-    }
-    let plan = rules(kind, slots, rows, checkpoints);
-    let by_checkpoint = plan.checkpoint;
-    let by_cut = plan.cut;
-    if stands(by_checkpoint, slots, rows, checkpoints) {
-        return stands(by_cut, slots, rows, checkpoints);
-    }
-    false
-}
-
-// 1, then 6: what append, truncation, reading and audit begin with.
-pub fn call_refusal(kind: Kind, slots: &[u8], rows: &[u8], checkpoints: &[u8]) -> u64
+// 1, then 6. Opening would change no length where there is a checkpoint for each whole window, no row is numbered above the count,
+// and the cut rule keeps all records.
+fn call_refusal(kind: Kind, slots: &[u8], rows: &[u8], checkpoints: &[u8], p: Published) -> u64
+    requires { ⌜ Publishes kind (areas (now slots) (now rows) (now checkpoints)) p ⌝ }
     ensures { λ r. ⌜ r ≡ firstRefusal kind (areas (now (slots .entry)) (now (rows .entry)) (now (checkpoints .entry))) ⌝ }
 {
     if too_small(slots, rows, checkpoints) {
-        return 1;
+        return AREA_TOO_SMALL;
     }
-    if settled(kind, slots, rows, checkpoints) {
-        0
+    let opening = open_refusal(kind, rows, p);
+    if opening != ACCEPTED {
+        return NOT_OPENED;
+    }
+    let count = p.slots.count as u64;
+    if p.checkpoints.count as u64 != count / LOC_WINDOW {
+        return NOT_OPENED;
+    }
+    let end = p.rows.end;
+    let last = number_before(kind, rows, end);
+    if count < last {
+        return NOT_OPENED;
+    }
+    if cut_count(kind, slots, rows, count, end, last) == count {
+        ACCEPTED
     } else {
-        6
+        NOT_OPENED
+    }
+}
+
+// What append, truncation, reading and audit begin with.
+pub fn check_areas(kind: Kind, slots: &[u8], rows: &[u8], checkpoints: &[u8]) -> Checked
+    ensures { λ r. ⌜ Checks kind (areas (now (slots .entry)) (now (rows .entry)) (now (checkpoints .entry))) r ⌝ }
+{
+    let p = published_areas(kind, slots, rows, checkpoints);
+    let number = call_refusal(kind, slots, rows, checkpoints, p);
+    let ends = Lengths {
+        slots: p.slots.end as u64,
+        rows: p.rows.end as u64,
+        checkpoints: p.checkpoints.end as u64,
+    };
+    Checked {
+        number,
+        count: p.slots.count as u64,
+        row_count: p.rows.count,
+        ends,
     }
 }

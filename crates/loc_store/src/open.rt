@@ -5,12 +5,17 @@ ghost use Rattle.loc_calls.specs.Calls.{call};
 ghost use Rattle.loc_calls.specs.Promises.{Stored};
 ghost use Rattle.loc_calls.specs.Areas.{areas};
 use crate::check::open_refusal;
+use crate::check::published_areas;
 use crate::check::too_small;
-use crate::plan::piece_count;
 use crate::plan::rules;
 use crate::store::store_rules;
 use loc_leaf::Answer;
 use loc_leaf::Kind;
+use loc_leaf::file::published;
+use loc_leaf::refusal::ACCEPTED;
+use loc_leaf::refusal::AREA_TOO_SMALL;
+use loc_leaf::refusal::accepted;
+use loc_leaf::refusal::refused;
 
 // 1; 2 to 5; then the first `places` of the six lengths. The value is the count that the areas then hold.
 pub fn open_run(
@@ -24,20 +29,15 @@ pub fn open_run(
         r (areas (now (slots .exit)) (now (rows .exit)) (now (checkpoints .exit))) ⌝ }
 {
     if too_small(slots, rows, checkpoints) {
-        return Answer {
-            number: 1,
-            value: 0,
-        };
+        return refused(AREA_TOO_SMALL);
     }
-    let number = open_refusal(kind, slots, rows, checkpoints);
-    if number != 0 {
-        return Answer { number, value: 0 };
+    let p = published_areas(kind, slots, rows, checkpoints);
+    let number = open_refusal(kind, rows, p);
+    if number != ACCEPTED {
+        return refused(number);
     }
-    let plan = rules(kind, slots, rows, checkpoints);
+    let plan = rules(kind, slots, rows, checkpoints, p);
     store_rules(slots, rows, checkpoints, plan, places);
-    let left = piece_count(slots, 2) as u64;
-    Answer {
-        number: 0,
-        value: left,
-    }
+    let left = published(slots, 2).count as u64;
+    accepted(left)
 }

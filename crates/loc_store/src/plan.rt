@@ -4,14 +4,12 @@ ghost use mathlib.Core.Path.{_≡_};
 ghost use mathlib.Core.Bool.{true};
 ghost use Prim.Native.Nat.{_+_, _-_, _*_, _^_, _≤_, _<_};
 ghost use lib.ListN.{length};
-ghost use Rattle.loc_leaf.specs.Area.{fill};
-ghost use Rattle.loc_leaf.specs.Kind.{checkpointWidth};
-ghost use Rattle.loc_leaf.specs.Slot.{checkpointRule};
 ghost use Rattle.loc_leaf.specs.Rows.{rowList, ascending};
 ghost use Rattle.loc_calls.specs.Areas.{areas};
-ghost use Rattle.loc_store.specs.Areas.{HoldHeaders};
+ghost use Rattle.loc_store.specs.Areas.{HoldHeaders, Publishes};
 ghost use Rattle.loc_store.specs.Plans.{lengthsFor, numberBefore, cutPast, rulesFor};
 use crate::Lengths;
+use crate::Published;
 use crate::Rules;
 use loc_leaf::Kind;
 use loc_leaf::delta_loc::LOC_WINDOW;
@@ -21,20 +19,7 @@ use loc_leaf::delta_loc::cut_for_ovf_row;
 use loc_leaf::delta_loc::row_width;
 use loc_leaf::delta_loc::rows_up_to;
 use loc_leaf::file::FILE_HEADER_LEN;
-use loc_leaf::file::logical_len;
 use loc_leaf::file::u64_at;
-
-// How many whole pieces an area publishes.
-pub fn piece_count(area: &[u8], width: usize) -> usize
-    requires { ⌜ 0 < width ⌝ }
-    ensures { λ r. ⌜ (r ≡ fill width (now (area .entry))) × (width * r ≤ length (now (area .entry)) - 16) ⌝ }
-{
-    let end = logical_len(area);
-    if end < FILE_HEADER_LEN {
-        return 0;
-    }
-    (end - FILE_HEADER_LEN) / width
-}
 
 // The lengths of a truncation to n records.
 pub fn lengths(kind: Kind, rows: &[u8], n: u64) -> Lengths
@@ -53,18 +38,8 @@ pub fn lengths(kind: Kind, rows: &[u8], n: u64) -> Lengths
     }
 }
 
-// How many records the checkpoint rule keeps.
-fn ruled_count(kind: Kind, slots: &[u8], checkpoints: &[u8]) -> u64
-    ensures { λ r. ⌜ (r ≡ checkpointRule (fill 2 (now (slots .entry))) (fill (checkpointWidth kind) (now (checkpoints .entry))))
-        × (2 * r ≤ length (now (slots .entry)) - 16) ⌝ }
-{
-    let n = piece_count(slots, 2) as u64;
-    let whole = piece_count(checkpoints, checkpoint_width(kind)) as u64;
-    checkpoint_prefix(n, whole)
-}
-
 // The number of the row that ends at a place, 0 where the rows begin there.
-fn number_before(kind: Kind, rows: &[u8], end: usize) -> u64
+pub fn number_before(kind: Kind, rows: &[u8], end: usize) -> u64
     ensures { λ r. ⌜ r ≡ numberBefore kind (now (rows .entry)) end ⌝ }
 {
     if end <= FILE_HEADER_LEN {
@@ -73,28 +48,35 @@ fn number_before(kind: Kind, rows: &[u8], end: usize) -> u64
     u64_at(rows, end - row_width(kind))
 }
 
-// The count that the cut rule keeps of n records whose rows end at a place.
-fn cut_count(kind: Kind, slots: &[u8], rows: &[u8], n: u64, end: usize) -> u64
-    requires { ⌜ end ≤ length (now rows) ⌝ }
+// The count that the cut rule keeps of n records whose rows end at a place, with a row of this number.
+pub fn cut_count(kind: Kind, slots: &[u8], rows: &[u8], n: u64, end: usize, last: u64) -> u64
+    requires { ⌜ (end ≤ length (now rows)) × (last ≡ numberBefore kind (now rows) end) ⌝ }
     ensures { λ r. ⌜ (r ≡ cutPast kind (now (slots .entry)) (now (rows .entry)) n end) × (r ≤ n) ⌝ }
 {
     let width = row_width(kind);
     if rows.len() - end < width {
         return n;
     }
-    let last = number_before(kind, rows, end);
     cut_for_ovf_row(kind, slots, n, last, &rows[end..end + width])
 }
 
-// The lengths of an opening's two truncations.
-pub fn rules(kind: Kind, slots: &[u8], rows: &[u8], checkpoints: &[u8]) -> Rules
-    requires { ⌜ HoldHeaders (areas (now slots) (now rows) (now checkpoints)) ⌝ }
+// The lengths of an opening's two truncations. Where the cut rule keeps all that the checkpoint rule kept, they are the same.
+pub fn rules(kind: Kind, slots: &[u8], rows: &[u8], checkpoints: &[u8], p: Published) -> Rules
+    requires { ⌜ HoldHeaders (areas (now slots) (now rows) (now checkpoints)) × Publishes kind (areas (now slots) (now rows) (now checkpoints)) p ⌝ }
     requires { ⌜ ascending 0 (rowList kind (now rows)) ≡ true ⌝ }
     ensures { λ r. ⌜ r ≡ rulesFor kind (areas (now (slots .entry)) (now (rows .entry)) (now (checkpoints .entry))) ⌝ }
 {
-    let n = ruled_count(kind, slots, checkpoints);
+    let n = checkpoint_prefix(p.slots.count as u64, p.checkpoints.count as u64);
     let by_checkpoint = lengths(kind, rows, n);
-    let kept = cut_count(kind, slots, rows, n, by_checkpoint.rows as usize);
+    let end = by_checkpoint.rows as usize;
+    let last = number_before(kind, rows, end);
+    let kept = cut_count(kind, slots, rows, n, end, last);
+    if kept == n {
+        return Rules {
+            checkpoint: by_checkpoint,
+            cut: by_checkpoint,
+        };
+    }
     let by_cut = lengths(kind, rows, kept);
     Rules {
         checkpoint: by_checkpoint,

@@ -4,12 +4,16 @@ ghost use Rattle.loc_calls.specs.Table.{truncate};
 ghost use Rattle.loc_calls.specs.Calls.{call};
 ghost use Rattle.loc_calls.specs.Promises.{Stored};
 ghost use Rattle.loc_calls.specs.Areas.{areas};
-use crate::check::call_refusal;
+use crate::check::check_areas;
 use crate::plan::lengths;
-use crate::plan::piece_count;
 use crate::store::store_run;
 use loc_leaf::Answer;
 use loc_leaf::Kind;
+use loc_leaf::file::published;
+use loc_leaf::refusal::ACCEPTED;
+use loc_leaf::refusal::PAST_COUNT;
+use loc_leaf::refusal::accepted;
+use loc_leaf::refusal::refused;
 
 // 1, 6, 14; then the first `places` of the three lengths. The value is the count that the areas then hold.
 pub fn truncate_run(
@@ -23,22 +27,15 @@ pub fn truncate_run(
     ensures { λ r. ⌜ Stored (call kind places (truncate count) (areas (now (slots .entry)) (now (rows .entry)) (now (checkpoints .entry))))
         r (areas (now (slots .exit)) (now (rows .exit)) (now (checkpoints .exit))) ⌝ }
 {
-    let number = call_refusal(kind, slots, rows, checkpoints);
-    if number != 0 {
-        return Answer { number, value: 0 };
+    let checked = check_areas(kind, slots, rows, checkpoints);
+    if checked.number != ACCEPTED {
+        return refused(checked.number);
     }
-    let published = piece_count(slots, 2) as u64;
-    if published < count {
-        return Answer {
-            number: 14,
-            value: 0,
-        };
+    if checked.count < count {
+        return refused(PAST_COUNT);
     }
     let plan = lengths(kind, rows, count);
     store_run(slots, rows, checkpoints, plan, places);
-    let left = piece_count(slots, 2) as u64;
-    Answer {
-        number: 0,
-        value: left,
-    }
+    let left = published(slots, 2).count as u64;
+    accepted(left)
 }

@@ -1,5 +1,6 @@
 -- `loc_import::append_text` meets its contract.
-use mathlib.Core.Path.{sym, _∙_}
+-- A refusal leaves the areas; else the listing is appended as the batch that the text says.
+use mathlib.Core.Path.{sym}
 use native.Mathlib.Omega.{arith}
 use lib.Seq.{length-take-le}
 use borrow.Author.Needs.{needs}
@@ -7,8 +8,11 @@ use Rattle.loc_import.proofs.TextLaws.{first-refused, text-refused, tex
 use Rattle.loc_import.proofs.append_text.Statement.{statement}
 use Rattle.loc_import.proofs.append_text.Tie as tie
 
-call-refusal-requires : tie.Need-call-refusal-requires
-call-refusal-requires c κs = search needs
+check-areas-requires : tie.Need-check-areas-requires
+check-areas-requires c κs = search needs
+
+refused-requires : tie.Need-refused-requires
+refused-requires c κs = search needs
 
 same-length : tie.Need-same-length
 same-length c = search needs
@@ -20,13 +24,13 @@ same-length-3 : tie.Need-same-length-3
 same-length-3 c = search needs
 
 returns : tie.Need-returns
-returns c = first-refused _ _ _ _ _ _ (c .before .call-refusal .ensures) (c .if1 .taken)
-
-piece-count-requires : tie.Need-piece-count-requires
-piece-count-requires c κs = search needs
+returns c = first-refused _ _ _ _ _ _ (c .before .before .before .check-areas .ensures) _ (c .before .if1 .taken) (c .refused .ensures)
 
 parse-requires : tie.Need-parse-requires
 parse-requires c κs = search needs
+
+refused-requires-2 : tie.Need-refused-requires-2
+refused-requires-2 c κs = search needs
 
 same-length-4 : tie.Need-same-length-4
 same-length-4 c = search needs
@@ -50,34 +54,34 @@ same-length-10 : tie.Need-same-length-10
 same-length-10 c = search needs
 
 returns-2 : tie.Need-returns-2
-returns-2 c = text-refused _ _ _ _ _ _ (c .before .before .before .before .before .before .before .before .before .before .before .before .before .before .before .before .before .call-refusal .ensures) (c .before .before .before .before .before .before .before .before .before .before .before .before .before .before .before .before .if1 .left) _ (c .before .before .before .before .before .before .before .before .before .before .before .before .before .before .piece-count .ensures .0) _ _ _ _ _ (c .before .before .before .before .before .before .before .before .before .parse .ensures) (c .if2 .taken)
+returns-2 c = text-refused _ _ _ _ _ _ (c .before .before .before .before .before .before .before .before .before .before .before .before .before .before .before .before .before .before .check-areas .ensures) (c .before .before .before .before .before .before .before .before .before .before .before .before .before .before .before .before .if1 .left) _ _ _ _ _ (c .before .before .before .before .before .before .before .before .before .before .before .parse .ensures) _ (c .before .if2 .taken) (c .refused2 .ensures)
 
 slice-reshare-prefix-append-settled : tie.Need-slice-reshare-prefix-append-settled
-slice-reshare-prefix-append-settled c = search needs
+slice-reshare-prefix-append-settled c = omega (arith, c .before .before .before .before .before .before .before .before .before .before .before .before .before .parse .ensures .few, c .before .before .before .before .before .before .before .before .before .before .before .before .before .parse .kept .1 .1 .0, c .before .before .before .before .before .before .before .before .before .before .before .before .before .before .before .before .before .before .before .before .before .before .before .before .before .before .before .before .before .before .before .before .pre .starts)
 
 slice-aggregate-append-settled : tie.Need-slice-aggregate-append-settled
-slice-aggregate-append-settled c = sym (length-take-le _ _ (omega (arith, c .before .before .before .before .before .before .before .before .before .before .before .before .before .parse .ensures .few, c .before .before .before .before .before .before .before .before .before .before .before .before .before .parse .kept .1 .1 .0, c .before .before .before .before .before .before .before .before .before .before .before .before .before .before .before .before .before .before .before .before .before .before .before .before .before .before .before .before .before .before .before .before .before .pre .starts)))
+slice-aggregate-append-settled c = sym (length-take-le _ _ (omega (arith, c .before .before .before .before .before .before .before .before .before .before .before .before .before .before .parse .ensures .few, c .before .before .before .before .before .before .before .before .before .before .before .before .before .before .parse .kept .1 .1 .0, c .before .before .before .before .before .before .before .before .before .before .before .before .before .before .before .before .before .before .before .before .before .before .before .before .before .before .before .before .before .before .before .before .before .pre .starts)))
 
 slice-reshare-prefix-append-settled-2 : tie.Need-slice-reshare-prefix-append-settled-2
-slice-reshare-prefix-append-settled-2 c = search needs
+slice-reshare-prefix-append-settled-2 c = omega (arith, c .before .before .before .before .before .before .before .before .before .before .before .before .before .before .parse .ensures .few, c .before .before .before .before .before .before .before .before .before .before .before .before .before .before .parse .kept .1 .1 .1 .0, c .before .before .before .before .before .before .before .before .before .before .before .before .before .before .before .before .before .before .before .before .before .before .before .before .before .before .before .before .before .before .before .before .before .pre .lens)
 
 slice-aggregate-append-settled-2 : tie.Need-slice-aggregate-append-settled-2
-slice-aggregate-append-settled-2 c = sym (length-take-le _ _ (omega (arith, c .before .before .before .before .before .before .before .before .before .before .before .before .before .before .parse .ensures .few, c .before .before .before .before .before .before .before .before .before .before .before .before .before .before .parse .kept .1 .1 .1 .0, c .before .before .before .before .before .before .before .before .before .before .before .before .before .before .before .before .before .before .before .before .before .before .before .before .before .before .before .before .before .before .before .before .before .before .pre .lens)))
+slice-aggregate-append-settled-2 c = sym (length-take-le _ _ (omega (arith, c .before .before .before .before .before .before .before .before .before .before .before .before .before .before .before .parse .ensures .few, c .before .before .before .before .before .before .before .before .before .before .before .before .before .before .before .parse .kept .1 .1 .1 .0, c .before .before .before .before .before .before .before .before .before .before .before .before .before .before .before .before .before .before .before .before .before .before .before .before .before .before .before .before .before .before .before .before .before .before .pre .lens)))
 
 slice-reshare-prefix-append-settled-3 : tie.Need-slice-reshare-prefix-append-settled-3
-slice-reshare-prefix-append-settled-3 c = search needs
+slice-reshare-prefix-append-settled-3 c = omega (arith, c .before .before .before .before .before .before .before .before .before .before .before .before .before .before .before .parse .ensures .few, c .before .before .before .before .before .before .before .before .before .before .before .before .before .before .before .parse .kept .1 .1 .1 .1 .0, c .before .before .before .before .before .before .before .before .before .before .before .before .before .before .before .before .before .before .before .before .before .before .before .before .before .before .before .before .before .before .before .before .before .before .pre .spanStarts)
 
 slice-aggregate-append-settled-3 : tie.Need-slice-aggregate-append-settled-3
-slice-aggregate-append-settled-3 c = sym (length-take-le _ _ (omega (arith, c .before .before .before .before .before .before .before .before .before .before .before .before .before .before .before .parse .ensures .few, c .before .before .before .before .before .before .before .before .before .before .before .before .before .before .before .parse .kept .1 .1 .1 .1 .0, c .before .before .before .before .before .before .before .before .before .before .before .before .before .before .before .before .before .before .before .before .before .before .before .before .before .before .before .before .before .before .before .before .before .before .before .pre .spanStarts)))
+slice-aggregate-append-settled-3 c = sym (length-take-le _ _ (omega (arith, c .before .before .before .before .before .before .before .before .before .before .before .before .before .before .before .before .parse .ensures .few, c .before .before .before .before .before .before .before .before .before .before .before .before .before .before .before .before .parse .kept .1 .1 .1 .1 .0, c .before .before .before .before .before .before .before .before .before .before .before .before .before .before .before .before .before .before .before .before .before .before .before .before .before .before .before .before .before .before .before .before .before .before .before .pre .spanStarts)))
 
 slice-reshare-prefix-append-settled-4 : tie.Need-slice-reshare-prefix-append-settled-4
-slice-reshare-prefix-append-settled-4 c = search needs
+slice-reshare-prefix-append-settled-4 c = omega (arith, c .before .before .before .before .before .before .before .before .before .before .before .before .before .before .before .before .parse .ensures .few, c .before .before .before .before .before .before .before .before .before .before .before .before .before .before .before .before .parse .kept .1 .1 .1 .1 .1 .0, c .before .before .before .before .before .before .before .before .before .before .before .before .before .before .before .before .before .before .before .before .before .before .before .before .before .before .before .before .before .before .before .before .before .before .before .pre .spanCounts)
 
 slice-aggregate-append-settled-4 : tie.Need-slice-aggregate-append-settled-4
-slice-aggregate-append-settled-4 c = sym (length-take-le _ _ (omega (arith, c .before .before .before .before .before .before .before .before .before .before .before .before .before .before .before .before .parse .ensures .few, c .before .before .before .before .before .before .before .before .before .before .before .before .before .before .before .before .parse .kept .1 .1 .1 .1 .1 .0, c .before .before .before .before .before .before .before .before .before .before .before .before .before .before .before .before .before .before .before .before .before .before .before .before .before .before .before .before .before .before .before .before .before .before .before .before .pre .spanCounts)))
+slice-aggregate-append-settled-4 c = sym (length-take-le _ _ (omega (arith, c .before .before .before .before .before .before .before .before .before .before .before .before .before .before .before .before .before .parse .ensures .few, c .before .before .before .before .before .before .before .before .before .before .before .before .before .before .before .before .before .parse .kept .1 .1 .1 .1 .1 .0, c .before .before .before .before .before .before .before .before .before .before .before .before .before .before .before .before .before .before .before .before .before .before .before .before .before .before .before .before .before .before .before .before .before .before .before .before .pre .spanCounts)))
 
 append-settled-requires : tie.Need-append-settled-requires
-append-settled-requires c κs = sym (c .before .before .before .before .before .before .before .before .before .before .before .before .before .before .before .before .before .before .before .before .before .before .before .before .call-refusal .ensures) ∙ c .before .before .before .before .before .before .before .before .before .before .before .before .before .before .before .before .before .before .before .before .before .before .before .if1 .left
+append-settled-requires c κs = search needs
 
 same-length-11 : tie.Need-same-length-11
 same-length-11 c = search needs
@@ -101,19 +105,20 @@ same-length-17 : tie.Need-same-length-17
 same-length-17 c = search needs
 
 returns-3 : tie.Need-returns-3
-returns-3 c = text-appended _ _ _ _ _ _ (c .before .before .before .before .before .before .before .before .before .before .before .before .before .before .before .before .before .before .before .before .before .before .before .before .before .before .before .before .before .before .before .call-refusal .ensures) (c .before .before .before .before .before .before .before .before .before .before .before .before .before .before .before .before .before .before .before .before .before .before .before .before .before .before .before .before .before .before .if1 .left) _ (c .before .before .before .before .before .before .before .before .before .before .before .before .before .before .before .before .before .before .before .before .before .before .before .before .before .before .before .before .piece-count .ensures .0) _ _ _ _ _ (c .before .before .before .before .before .before .before .before .before .before .before .before .before .before .before .before .before .before .before .before .before .before .before .parse .ensures) (c .before .before .before .before .before .before .before .before .before .before .before .before .before .before .if2 .left) _ _ (c .before .before .before .before .before .before .append-settled .ensures)
+returns-3 c = text-appended _ _ _ _ _ _ (c .before .before .before .before .before .before .before .before .before .before .before .before .before .before .before .before .before .before .before .before .before .before .before .before .before .before .before .before .before .before .before .check-areas .ensures) (c .before .before .before .before .before .before .before .before .before .before .before .before .before .before .before .before .before .before .before .before .before .before .before .before .before .before .before .before .before .if1 .left) _ _ _ _ _ (c .before .before .before .before .before .before .before .before .before .before .before .before .before .before .before .before .before .before .before .before .before .before .before .before .parse .ensures) (c .before .before .before .before .before .before .before .before .before .before .before .before .before .before .if2 .left) _ _ (c .before .before .before .before .before .before .append-settled .ensures)
 
 pub append-text-spec : {M : Type 1} → statement M
 append-text-spec =
     tie.close
     (tie.spec
-    call-refusal-requires
+    check-areas-requires
+    refused-requires
     same-length
     same-length-2
     same-length-3
     returns
-    piece-count-requires
     parse-requires
+    refused-requires-2
     same-length-4
     same-length-5
     same-length-6

@@ -7,9 +7,6 @@ use Rattle.loc_audit.proofs.PassLaws.{judged}
 use Rattle.loc_audit.proofs.audit.areas_sound.Statement.{statement}
 use Rattle.loc_audit.proofs.audit.areas_sound.Tie as tie
 
-piece-count-requires : tie.Need-piece-count-requires
-piece-count-requires c κs = search needs
-
 logical-len-requires : tie.Need-logical-len-requires
 logical-len-requires c κs = search needs
 
@@ -29,7 +26,6 @@ pub areas-sound-spec : {M : Type 1} → statement M
 areas-sound-spec =
     tie.close
     (tie.spec
-    piece-count-requires
     logical-len-requires
     slice-aggregate-published
     row-width-requires

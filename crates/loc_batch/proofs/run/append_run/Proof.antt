@@ -1,11 +1,15 @@
 -- `loc_batch::run::append_run` meets its contract.
+-- A refusal by 1 or 6 leaves the areas.
 use borrow.Author.Needs.{needs}
 use Rattle.loc_batch.proofs.RunLaws.{append-refused}
 use Rattle.loc_batch.proofs.run.append_run.Statement.{statement}
 use Rattle.loc_batch.proofs.run.append_run.Tie as tie
 
-call-refusal-requires : tie.Need-call-refusal-requires
-call-refusal-requires c κs = search needs
+check-areas-requires : tie.Need-check-areas-requires
+check-areas-requires c κs = search needs
+
+refused-requires : tie.Need-refused-requires
+refused-requires c κs = search needs
 
 same-length : tie.Need-same-length
 same-length c = search needs
@@ -17,7 +21,7 @@ same-length-3 : tie.Need-same-length-3
 same-length-3 c = search needs
 
 returns : tie.Need-returns
-returns c = append-refused _ _ _ _ _ _ _ (c .before .call-refusal .ensures) (c .if1 .taken)
+returns c = append-refused _ _ _ _ _ _ _ _ (c .before .before .before .check-areas .ensures) (c .before .if1 .taken) (c .refused .ensures)
 
 append-settled-requires : tie.Need-append-settled-requires
 append-settled-requires c κs = search needs
@@ -38,7 +42,8 @@ pub append-run-spec : {M : Type 1} → statement M
 append-run-spec =
     tie.close
     (tie.spec
-    call-refusal-requires
+    check-areas-requires
+    refused-requires
     same-length
     same-length-2
     same-length-3

@@ -1,4 +1,5 @@
 -- `loc_batch::run::append_settled` meets its contract.
+-- A refusal leaves the areas; else the stage is that of the areas at entry, and the run is over its places.
 use borrow.Author.Needs.{needs}
 use Rattle.loc_batch.proofs.RunLaws.{append-planned, append-room, append-held, append-done}
 use Rattle.loc_batch.proofs.run.append_settled.Statement.{statement}
@@ -6,6 +7,9 @@ use Rattle.loc_batch.proofs.run.append_settled.Tie as tie
 
 plan-append-requires : tie.Need-plan-append-requires
 plan-append-requires c κs = search needs
+
+refused-requires : tie.Need-refused-requires
+refused-requires c κs = search needs
 
 same-length : tie.Need-same-length
 same-length c = search needs
@@ -17,13 +21,16 @@ same-length-3 : tie.Need-same-length-3
 same-length-3 c = search needs
 
 returns : tie.Need-returns
-returns c = append-planned _ _ _ _ _ _ (c .before .before .before .before .before .before .before .before .before .before .before .before .pre) _ (c .before .plan-append .ensures) (c .if1 .taken)
+returns c = append-planned _ _ _ _ _ _ _ (c .before .before .before .before .before .before .before .before .before .before .before .before .before .before .pre .0) (c .before .before .before .before .before .before .before .before .before .before .before .before .before .before .pre .1) _ (c .before .before .before .plan-append .ensures) _ (c .before .if1 .taken) (c .refused .ensures)
 
 append-stores-requires : tie.Need-append-stores-requires
-append-stores-requires c κs = (append-room _ _ _ _ _ (c .before .before .before .before .before .before .before .before .before .before .before .before .before .before .before .before .args .places) (c .before .before .before .before .before .before .before .before .before .before .before .before .before .before .before .before .pre) _ (c .before .before .before .before .before .plan-append .ensures) (c .before .before .before .before .if1 .left), append-held _ _ _ _ _ (c .before .before .before .before .before .before .before .before .before .before .before .before .before .before .before .before .args .places) (c .before .before .before .before .before .before .before .before .before .before .before .before .before .before .before .before .pre) _ (c .before .before .before .before .before .plan-append .ensures) (c .before .before .before .before .if1 .left))
+append-stores-requires c κs = (append-room _ _ _ _ _ (c .before .before .before .before .before .before .before .before .before .before .before .before .before .before .before .before .before .args .places) _ (c .before .before .before .before .before .before .before .before .before .before .before .before .before .before .before .before .before .pre .0) (c .before .before .before .before .before .before .before .before .before .before .before .before .before .before .before .before .before .pre .1) _ (c .before .before .before .before .before .before .plan-append .ensures) (c .before .before .before .before .if1 .left), append-held _ _ _ _ _ (c .before .before .before .before .before .before .before .before .before .before .before .before .before .before .before .before .before .args .places) _ (c .before .before .before .before .before .before .before .before .before .before .before .before .before .before .before .before .before .pre .0) (c .before .before .before .before .before .before .before .before .before .before .before .before .before .before .before .before .before .pre .1) _ (c .before .before .before .before .before .before .plan-append .ensures) (c .before .before .before .before .if1 .left))
 
-piece-count-requires : tie.Need-piece-count-requires
-piece-count-requires c κs = search needs
+published-requires : tie.Need-published-requires
+published-requires c κs = search needs
+
+accepted-requires : tie.Need-accepted-requires
+accepted-requires c κs = search needs
 
 same-length-4 : tie.Need-same-length-4
 same-length-4 c = search needs
@@ -35,19 +42,21 @@ same-length-6 : tie.Need-same-length-6
 same-length-6 c = search needs
 
 returns-2 : tie.Need-returns-2
-returns-2 c = append-done _ _ _ _ _ _ (c .before .before .before .before .before .before .before .before .before .before .before .before .before .before .before .before .before .before .before .before .before .before .before .before .before .pre) _ (c .before .before .before .before .before .before .before .before .before .before .before .before .before .before .plan-append .ensures) (c .before .before .before .before .before .before .before .before .before .before .before .before .before .if1 .left) _ _ _ _ (c .before .before .before .before .before .before .before .before .append-stores .ensures) (c .piece-count .ensures .0)
+returns-2 c = append-done _ _ _ _ _ _ _ (c .before .before .before .before .before .before .before .before .before .before .before .before .before .before .before .before .before .before .before .before .before .before .before .before .before .before .before .pre .0) (c .before .before .before .before .before .before .before .before .before .before .before .before .before .before .before .before .before .before .before .before .before .before .before .before .before .before .before .pre .1) _ (c .before .before .before .before .before .before .before .before .before .before .before .before .before .before .before .before .plan-append .ensures) (c .before .before .before .before .before .before .before .before .before .before .before .before .before .before .if1 .left) _ _ _ _ _ (c .before .before .before .before .before .before .before .before .before .append-stores .ensures) (c .before .published .ensures .count) (c .accepted .ensures)
 
 pub append-settled-spec : {M : Type 1} → statement M
 append-settled-spec =
     tie.close
     (tie.spec
     plan-append-requires
+    refused-requires
     same-length
     same-length-2
     same-length-3
     returns
     append-stores-requires
-    piece-count-requires
+    published-requires
+    accepted-requires
     same-length-4
     same-length-5
     same-length-6

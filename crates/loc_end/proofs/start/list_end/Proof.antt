@@ -17,30 +17,27 @@ mul-first c = search needs
 sub-m : tie.Need-sub-m
 sub-m c = search needs
 
-row-count-requires : tie.Need-row-count-requires
-row-count-requires c κs = search needs
-
 window-total-requires : tie.Need-window-total-requires
-window-total-requires c κs = walkable _ _ _ _ _ _ _ _ (c .before .before .before .before .before .pre .0) (c .before .before .before .before .before .pre .1) (c .before .loc-window .ensures) refl refl _ (search needs) (c .row-count .ensures)
+window-total-requires c κs = walkable _ _ _ _ _ _ _ _ (c .before .before .before .before .pre .0) (c .before .before .before .before .pre .1) (c .loc-window .ensures) refl refl _ (search needs) (c .before .before .before .before .pre .2)
 
 returns : tie.Need-returns
-returns c = end-lacks _ _ _ _ _ _ _ _ (c .before .before .before .before .before .before .before .before .pre .0) (c .before .before .before .before .before .before .before .before .pre .1) (c .before .before .before .before .loc-window .ensures) refl refl _ (c .before .before .window-total .ensures) _ (omega arith) (c .if1 .taken)
+returns c = end-lacks _ _ _ _ _ _ _ _ (c .before .before .before .before .before .before .before .pre .0) (c .before .before .before .before .before .before .before .pre .1) (c .before .before .before .loc-window .ensures) refl refl _ (c .before .before .window-total .ensures) _ (omega arith) (c .if1 .taken)
 
 window-end-requires : tie.Need-window-end-requires
 window-end-requires c κs = search needs
 
 mul-saturating-add : tie.Need-mul-saturating-add
-mul-saturating-add c = omega (arith, sums-low _ _ _ _ _ _ _ _ (c .before .before .before .before .before .before .before .before .before .before .pre .0) (c .before .before .before .before .before .before .before .before .before .before .pre .1) (c .before .before .before .before .before .before .loc-window .ensures) refl refl _ (c .before .before .before .before .window-total .ensures) .0)
+mul-saturating-add c = omega (arith, sums-low _ _ _ _ _ _ _ _ (c .before .before .before .before .before .before .before .before .before .pre .0) (c .before .before .before .before .before .before .before .before .before .pre .1) (c .before .before .before .before .before .loc-window .ensures) refl refl _ (c .before .before .before .before .window-total .ensures) .0)
 
 saturating-add-requires : tie.Need-saturating-add-requires
 saturating-add-requires c κs = search needs
 
 span-end-requires : tie.Need-span-end-requires
-span-end-requires c κs = (search needs, sums-low _ _ _ _ _ _ _ _ (c .before .before .before .before .before .before .before .before .before .before .before .pre .0) (c .before .before .before .before .before .before .before .before .before .before .before .pre .1) (c .before .before .before .before .before .before .before .loc-window .ensures) refl refl _ (c .before .before .before .before .before .window-total .ensures) .1)
+span-end-requires c κs = (search needs, sums-low _ _ _ _ _ _ _ _ (c .before .before .before .before .before .before .before .before .before .before .pre .0) (c .before .before .before .before .before .before .before .before .before .before .pre .1) (c .before .before .before .before .before .before .loc-window .ensures) refl refl _ (c .before .before .before .before .before .window-total .ensures) .1)
 
 returns-2 : tie.Need-returns-2
 returns-2 c =
-    end-is _ _ _ _ _ _ _ _ (c .before .before .before .before .before .before .before .before .before .before .before .before .pre .0) (c .before .before .before .before .before .before .before .before .before .before .before .before .pre .1) (c .before .before .before .before .before .before .before .before .loc-window .ensures) refl refl _ (c .before .before .before .before .before .before .window-total .ensures) (c .before .before .before .before .if1 .left) _ _ _
+    end-is _ _ _ _ _ _ _ _ (c .before .before .before .before .before .before .before .before .before .before .before .pre .0) (c .before .before .before .before .before .before .before .before .before .before .before .pre .1) (c .before .before .before .before .before .before .before .loc-window .ensures) refl refl _ (c .before .before .before .before .before .before .window-total .ensures) (c .before .before .before .before .if1 .left) _ _ _
     (end-of-bodies _ _ _ _ _ (c .before .before .before .window-end .ensures _ _) (omega arith)) (c .before .saturating-add .ensures) (c .span-end .ensures _ _)
 
 pub list-end-spec : {M : Type 1} → statement M
@@ -50,7 +47,6 @@ list-end-spec =
     loc-window-requires
     mul-first
     sub-m
-    row-count-requires
     window-total-requires
     returns
     window-end-requires

@@ -1,7 +1,8 @@
 -- `loc_read::read::read_few` meets its contract.
+-- The arrays hold 32 numbers.
 use native.Mathlib.Omega.{arith}
-use borrow.Author.Needs.{needs}
 use denote.Ref.{now}
+use borrow.Author.Needs.{needs}
 use Rattle.loc_read.proofs.ReadLaws.{arrays-hold}
 use Rattle.loc_read.proofs.read.read_few.Statement.{statement}
 use Rattle.loc_read.proofs.read.read_few.Tie as tie
@@ -16,7 +17,7 @@ slice-aggregate-read-with-3 : tie.Need-slice-aggregate-read-with-3
 slice-aggregate-read-with-3 c = search needs
 
 read-with-requires : tie.Need-read-with-requires
-read-with-requires c κs = ((c .before .before .before .before .before .before .before .before .before .pre .0), arrays-hold (c .before .before .before .before .before .before .before .before .before .args .kind) (now (c .before .before .before .before .before .before .before .before .before .args .wanted)) 32 192 (c .before .before .before .before .before .before .before .before .before .pre .1) (omega arith))
+read-with-requires c κs = ((c .before .before .before .before .before .before .before .before .before .pre .0, c .before .before .before .before .before .before .before .before .before .pre .1), arrays-hold (c .before .before .before .before .before .before .before .before .before .args .kind) (now (c .before .before .before .before .before .before .before .before .before .args .wanted)) 32 192 (c .before .before .before .before .before .before .before .before .before .pre .2) (omega arith))
 
 same-length : tie.Need-same-length
 same-length c = search needs

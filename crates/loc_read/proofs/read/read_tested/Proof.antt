@@ -1,4 +1,5 @@
 -- `loc_read::read::read_tested` meets its contract.
+-- Each way asks what is known here.
 use Prim.Native.Nat.{ℕ}
 use mathlib.Core.Path.{_∙_}
 use lib.ListN.{length-replicate}
@@ -6,9 +7,6 @@ use borrow.Author.Needs.{needs}
 use Rattle.loc_runs.proofs.RunLaws.{one-count}
 use Rattle.loc_read.proofs.read.read_tested.Statement.{statement}
 use Rattle.loc_read.proofs.read.read_tested.Tie as tie
-
-piece-count-requires : tie.Need-piece-count-requires
-piece-count-requires c κs = search needs
 
 slice-aggregate-one-window : tie.Need-slice-aggregate-one-window
 slice-aggregate-one-window c = search needs
@@ -20,7 +18,7 @@ slice-aggregate-read-window : tie.Need-slice-aggregate-read-window
 slice-aggregate-read-window c = search needs
 
 read-window-requires : tie.Need-read-window-requires
-read-window-requires c κs = (c .before .before .before .before .before .before .before .before .before .before .before .before .pre, (c .before .before .before .before .one-window .kept .1 .1 .1 .0 ∙ length-replicate {A = ℕ} 128 0, one-count _ _ _ _ _ _ (c .before .before .before .before .before .before .piece-count .ensures .0) (c .before .before .before .before .one-window .ensures (c .before .before .if1 .taken))))
+read-window-requires c κs = (c .before .before .before .before .before .before .before .before .before .before .before .pre .0, (c .before .before .before .before .one-window .kept .1 .1 .1 .0 ∙ length-replicate {A = ℕ} 128 0, one-count _ _ _ _ _ _ (c .before .before .before .before .before .before .before .before .before .before .before .pre .1) (c .before .before .before .before .one-window .ensures (c .before .before .if1 .taken))))
 
 same-length : tie.Need-same-length
 same-length c = search needs
@@ -50,7 +48,6 @@ pub read-tested-spec : {M : Type 1} → statement M
 read-tested-spec =
     tie.close
     (tie.spec
-    piece-count-requires
     slice-aggregate-one-window
     one-window-requires
     slice-aggregate-read-window

@@ -1,6 +1,5 @@
 -- `loc_store::create::create_areas` meets its contract.
 -- A refusal leaves the areas, and the three stores are the run over all places of a creation.
-use denote.Ref.{now}
 use borrow.Author.Needs.{needs}
 use Rattle.loc_store.proofs.CallLaws.{create-small, create-done}
 use Rattle.loc_store.proofs.create.create_areas.Statement.{statement}
@@ -8,6 +7,9 @@ use Rattle.loc_store.proofs.create.create_areas.Tie as tie
 
 too-small-requires : tie.Need-too-small-requires
 too-small-requires c κs = search needs
+
+refused-requires : tie.Need-refused-requires
+refused-requires c κs = search needs
 
 same-length : tie.Need-same-length
 same-length c = search needs
@@ -19,9 +21,7 @@ same-length-3 : tie.Need-same-length-3
 same-length-3 c = search needs
 
 returns : tie.Need-returns
-returns c =
-    let start = c .before .before .before .before .before .before .before .before in
-    create-small (now (start .args .slots)) (now (start .args .rows)) (now (start .args .checkpoints)) _ (c .before .too-small .ensures) (c .if1 .taken)
+returns c = search (needs, create-small)
 
 store-len-requires : tie.Need-store-len-requires
 store-len-requires c κs = search needs
@@ -31,6 +31,9 @@ store-len-requires-2 c κs = search needs
 
 store-len-requires-3 : tie.Need-store-len-requires-3
 store-len-requires-3 c κs = search needs
+
+accepted-requires : tie.Need-accepted-requires
+accepted-requires c κs = search needs
 
 same-length-4 : tie.Need-same-length-4
 same-length-4 c = search needs
@@ -42,17 +45,14 @@ same-length-6 : tie.Need-same-length-6
 same-length-6 c = search needs
 
 returns-2 : tie.Need-returns-2
-returns-2 c =
-    let sized = c .before .before .before .before .before .before .before .before .before .before .before .before in
-    let start = sized .before .before .before .before .before .before .before .before in
-    create-done (now (start .args .slots)) (now (start .args .rows)) (now (start .args .checkpoints)) _ (sized .before .too-small .ensures) _ _ _ (sized .if1 .left)
-    (c .before .before .before .before .before .before .before .before .before .before .store-len .ensures) (c .before .before .before .before .before .before .store-len2 .ensures) (c .before .before .store-len3 .ensures)
+returns-2 c = search (needs, create-done)
 
 pub create-areas-spec : {M : Type 1} → statement M
 create-areas-spec =
     tie.close
     (tie.spec
     too-small-requires
+    refused-requires
     same-length
     same-length-2
     same-length-3
@@ -60,6 +60,7 @@ create-areas-spec =
     store-len-requires
     store-len-requires-2
     store-len-requires-3
+    accepted-requires
     same-length-4
     same-length-5
     same-length-6

@@ -1,5 +1,6 @@
 -- `loc_store::open::open_run` meets its contract.
 -- A refusal leaves the areas; else the plan is that of the areas at entry, and the run is over its places.
+use mathlib.Core.Path.{sym, _∙_}
 use denote.Ref.{now}
 use borrow.Author.Needs.{needs}
 use Rattle.loc_store.proofs.CallLaws.{open-small, open-refused, open-done}
@@ -9,6 +10,9 @@ use Rattle.loc_store.proofs.open.open_run.Tie as tie
 
 too-small-requires : tie.Need-too-small-requires
 too-small-requires c κs = search needs
+
+refused-requires : tie.Need-refused-requires
+refused-requires c κs = search needs
 
 same-length : tie.Need-same-length
 same-length c = search needs
@@ -20,12 +24,16 @@ same-length-3 : tie.Need-same-length-3
 same-length-3 c = search needs
 
 returns : tie.Need-returns
-returns c =
-    let start = c .before .before .before .before .before .before .before .before in
-    open-small (start .args .kind) (now (start .args .slots)) (now (start .args .rows)) (now (start .args .checkpoints)) _ _ (c .before .too-small .ensures) (c .if1 .taken)
+returns c = search (needs, open-small)
+
+published-areas-requires : tie.Need-published-areas-requires
+published-areas-requires c κs = search needs
 
 open-refusal-requires : tie.Need-open-refusal-requires
 open-refusal-requires c κs = search needs
+
+refused-requires-2 : tie.Need-refused-requires-2
+refused-requires-2 c κs = search needs
 
 same-length-4 : tie.Need-same-length-4
 same-length-4 c = search needs
@@ -37,25 +45,26 @@ same-length-6 : tie.Need-same-length-6
 same-length-6 c = search needs
 
 returns-2 : tie.Need-returns-2
-returns-2 c =
-    let sized = c .before .before .before .before .before in
-    let start = sized .before .before .before .before .before .before .before .before in
-    open-refused (start .args .kind) (now (start .args .slots)) (now (start .args .rows)) (now (start .args .checkpoints)) _ _ (sized .before .too-small .ensures) (sized .if1 .left) _ (c .before .open-refusal .ensures) (c .if2 .taken)
+returns-2 c = search (needs, open-refused)
 
 rules-requires : tie.Need-rules-requires
 rules-requires c κs =
     let accepted = c .before .before .before in
-    let sized = accepted .before .before .before .before .before in
+    let found = accepted .before .before .before in
+    let sized = found .before .before .before .before in
     let start = sized .before .before .before .before .before .before .before .before in (
-      not-small (now (start .args .slots)) (now (start .args .rows)) (now (start .args .checkpoints)) _ (sized .before .too-small .ensures) (sized .if1 .left),
-      opened-ascends (start .args .kind) (now (start .args .slots)) (now (start .args .rows)) (now (start .args .checkpoints)) _ (accepted .before .open-refusal .ensures) (accepted .if2 .left),
+      (not-small (now (start .args .slots)) (now (start .args .rows)) (now (start .args .checkpoints)) _ (sized .before .too-small .ensures) (sized .if1 .left), search needs),
+      opened-ascends (start .args .kind) (now (start .args .slots)) (now (start .args .rows)) (now (start .args .checkpoints)) (sym (accepted .before .open-refusal .ensures _ _ (found .published-areas .ensures)) ∙ accepted .if2 .left),
     )
 
 store-rules-requires : tie.Need-store-rules-requires
 store-rules-requires c κs = search needs
 
-piece-count-requires : tie.Need-piece-count-requires
-piece-count-requires c κs = search needs
+published-requires : tie.Need-published-requires
+published-requires c κs = search needs
+
+accepted-requires : tie.Need-accepted-requires
+accepted-requires c κs = search needs
 
 same-length-7 : tie.Need-same-length-7
 same-length-7 c = search needs
@@ -68,29 +77,34 @@ same-length-9 c = search needs
 
 returns-3 : tie.Need-returns-3
 returns-3 c =
-    let accepted = c .before .before .before .before .before .before .before .before .before .before .before .before .before .before .before .before in
-    let sized = accepted .before .before .before .before .before in
+    let accepted = c .before .before .before .before .before .before .before .before .before .before .before .before .before .before .before .before .before in
+    let found = accepted .before .before .before in
+    let sized = found .before .before .before .before in
     let start = sized .before .before .before .before .before .before .before .before in
-    open-done (start .args .kind) (now (start .args .slots)) (now (start .args .rows)) (now (start .args .checkpoints)) _ _ (sized .before .too-small .ensures) (sized .if1 .left) _ (accepted .before .open-refusal .ensures)
-    _ _ _ _ _ (accepted .if2 .left) (c .before .before .before .before .before .before .before .before .before .before .before .before .rules .ensures) (c .before .before .before .before .before .before .before .before .store-rules .ensures) (c .piece-count .ensures .0)
+    open-done (start .args .kind) (now (start .args .slots)) (now (start .args .rows)) (now (start .args .checkpoints)) _ _ (sized .before .too-small .ensures) _ (sized .if1 .left) _ (found .published-areas .ensures) _ (accepted .before .open-refusal .ensures)
+    _ _ _ _ _ (accepted .if2 .left) (c .before .before .before .before .before .before .before .before .before .before .before .before .before .rules .ensures) (c .before .before .before .before .before .before .before .before .before .store-rules .ensures) (c .before .published .ensures .count) (c .accepted .ensures)
 
 pub open-run-spec : {M : Type 1} → statement M
 open-run-spec =
     tie.close
     (tie.spec
     too-small-requires
+    refused-requires
     same-length
     same-length-2
     same-length-3
     returns
+    published-areas-requires
     open-refusal-requires
+    refused-requires-2
     same-length-4
     same-length-5
     same-length-6
     returns-2
     rules-requires
     store-rules-requires
-    piece-count-requires
+    published-requires
+    accepted-requires
     same-length-7
     same-length-8
     same-length-9

@@ -14,9 +14,6 @@ sub-if1 c = search needs
 returns : tie.Need-returns
 returns c = (search (needs, cut-none), search needs)
 
-number-before-requires : tie.Need-number-before-requires
-number-before-requires c κs = search needs
-
 add-cut-for-ovf-row : tie.Need-add-cut-for-ovf-row
 add-cut-for-ovf-row c = search needs
 
@@ -42,7 +39,6 @@ cut-count-spec =
     row-width-requires
     sub-if1
     returns
-    number-before-requires
     add-cut-for-ovf-row
     sub-cut-for-ovf-row
     part-cut-for-ovf-row-start
