@@ -1,3 +1,4 @@
 pub mod WindowLaws
 pub mod WalkLaws
 pub mod ReadLaws
+pub mod OwnLaws

@@ -23,11 +23,9 @@ use Rattle.loc_order.proofs.OrderLaws.{all-of}
 use Rattle.loc_order.proofs.KeyLaws.{keys-right, keys-meet, places-at}
 use Rattle.loc_answer.specs.Words.{RunSafe, Agrees, RunPut}
 use Rattle.loc_answer.proofs.AnswerLaws.{zeros-has}
-use Rattle.loc_window.specs.declared.Sums.{Sums}
-use Rattle.loc_window.specs.Window.{windowAreas, complete, SumsStored, Summing, Copied}
-use Rattle.loc_window.proofs.SummingLaws.{summed-known, summed-stored}
+use Rattle.loc_window.specs.Window.{windowAreas, complete, Copied}
 use Rattle.loc_runs.specs.Runs.{IsRun}
-use Rattle.loc_read.specs.Walk.{Readable, rightAt, HasRight, Passing, Answered, Finished}
+use Rattle.loc_read.specs.Walk.{Readable, InArrays, rightAt, HasRight, Passing, Answered, Finished}
 use Rattle.loc_runs.proofs.RunLaws.{looked-few, looked-counted, key-there, key-some, key-counted, own-number}
 use Rattle.loc_read.proofs.WindowLaws.{window-lacks, window-complete, window-summed, window-words}
 
@@ -84,13 +82,7 @@ module _ (k : Kind) (a : Areas) (n nr : ℕ) (ids keys : List ℕ) (rd : Readabl
           any-at k a ids (placeOf (getD keys (run .most) 0)) (key-there n ids keys ks (run .most) (omega (arith, run .mostEnd, run .inside)))
           (window-lacks k a n nr ids keys i end f m stamp mark bytes old [] [] rd ks run first copied e)
 
-      module _ (block : ℕ) (s : Sums) (body span : List ℕ) (w : Summing k 1025 f m bytes (a .rows) nr mark stamp block s body span) (h : m ≤ 8 * block) where
-        abbrev known : complete k (windowAreas f bytes (a .rows)) f m ≡ true
-        known = summed-known k 1025 f m bytes (a .rows) nr mark stamp block s body span w h
-
-        abbrev stored : SumsStored k f bytes (a .rows) mark stamp m body span
-        stored = summed-stored k 1025 f m bytes (a .rows) nr mark stamp block s body span w h
-
+      module _ (body span : List ℕ) (w : InArrays k f m bytes (a .rows) mark stamp body span) where
         pub run-safe : (out : List ℕ) → wordWidth k * length ids ≤ length out → RunSafe k ids keys i end body span out
         run-safe out room =
             record {
@@ -98,13 +90,13 @@ module _ (k : Kind) (a : Areas) (n nr : ℕ) (ids keys : List ℕ) (rd : Readabl
               inside = run .inside;
               room = room;
               place = λ t l g. key-there n ids keys ks t (omega (arith, run .inside));
-              summed = λ t l g. window-summed k a n nr ids keys i end f m stamp mark bytes old body span rd ks run first copied known stored (w .bodyLong) (w .spanLong) t l g;
+              summed = λ t l g. window-summed k a n nr ids keys i end f m stamp mark bytes old body span rd ks run first copied w t l g;
             }
 
         module _ (b e : ℕ) (eb : b ≡ windowEnd k a 0 (windowOf (wantedBy ids keys i))) (ee : k ≡ Paired → e ≡ windowEnd k a 8 (windowOf (wantedBy ids keys i))) where
           agrees : Agrees k ids keys i end b e body span (rightAt k a ids)
           unfolding Agrees
-          agrees t l g = window-words k a n nr ids keys i end f m stamp mark bytes old body span rd ks run first copied known stored (w .bodyLong) (w .spanLong) t l g b e eb ee
+          agrees t l g = window-words k a n nr ids keys i end f m stamp mark bytes old body span rd ks run first copied w t l g b e eb ee
 
           pub passing-next : (out₀ out out′ : List ℕ) → Passing k a ids keys i out₀ out → RunPut k ids keys i end b e body span out out′ → Passing k a ids keys end out₀ out′
           passing-next out₀ out out′ p r =
@@ -127,7 +119,7 @@ module _ (k : Kind) (a : Areas) (n nr : ℕ) (ids keys : List ℕ) (rd : Readabl
               complete t g =
                   ⊎-elim
                   (λ (l : t < i). p .complete t l)
-                  (λ (l : i ≤ t). window-complete k a n nr ids keys i end f m stamp mark bytes old body span rd ks run first copied known stored (w .bodyLong) (w .spanLong) t l g)
+                  (λ (l : i ≤ t). window-complete k a n nr ids keys i end f m stamp mark bytes old body span rd ks run first copied w t l g)
                   (before-or-from t i)
 
 -- ---- the end of the walk

@@ -21,12 +21,13 @@ use Rattle.loc_order.specs.Order.{All}
 use Rattle.loc_order.specs.Keys.{wantedBy, KeyOf}
 use Rattle.loc_order.proofs.OrderLaws.{all-at}
 use Rattle.loc_answer.specs.Words.{Summed, sumWords}
-use Rattle.loc_window.specs.Window.{windowAreas, complete, Rising, sumsOf, Right, SumsStored, Summing, Copied}
+use Rattle.loc_window.specs.declared.Sums.{Sums}
+use Rattle.loc_window.specs.Window.{windowAreas, complete, Rising, sumsOf, Right, Summing, Copied}
 use Rattle.loc_window.proofs.SumLaws.{all-more}
 use Rattle.loc_window.proofs.WindowLaws.{past-rows, complete-same, right-strides, right-spans}
-use Rattle.loc_window.proofs.SummingLaws.{summing-begins}
+use Rattle.loc_window.proofs.SummingLaws.{summing-begins, summed-known, summed-stored}
 use Rattle.loc_runs.specs.Runs.{IsRun}
-use Rattle.loc_read.specs.Walk.{Readable}
+use Rattle.loc_read.specs.Walk.{Readable, InArrays}
 use Rattle.loc_runs.proofs.RunLaws.{looked-own, key-some, key-counted}
 
 -- ---- where the slot loop begins
@@ -36,6 +37,17 @@ pub summing-none : (k : Kind) (f m : ℕ) (bytes rows : Bytes) (nr : ℕ) (mark 
     → length bytes ≡ 2048 → length body ≡ 1025 → length span ≡ 1025 → Summing k 1025 f m bytes rows nr mark stamp 0 (sumsOf 0 0 (nr + 1) 0) body span
 summing-none k f m bytes rows nr mark stamp body span few low rise eb e₁ e₂ =
     summing-begins k 1025 f m bytes rows nr mark stamp (nr + 1) body span few (omega arith) low rise (past-rows k f bytes rows nr rise) (omega arith) e₁ e₂
+
+-- in these arrays the loop has ended
+pub arrays-summing : (k : Kind) (f m : ℕ) (bytes rows : Bytes) (nr : ℕ) (mark : List ℕ) (stamp block : ℕ) (s : Sums) (body span : List ℕ) → Summing k 1025 f m bytes rows nr mark stamp block s body span → m ≤ 8 * block
+    → InArrays k f m bytes rows mark stamp body span
+arrays-summing k f m bytes rows nr mark stamp block s body span w h =
+    record {
+      known = summed-known k 1025 f m bytes rows nr mark stamp block s body span w h;
+      stored = summed-stored k 1025 f m bytes rows nr mark stamp block s body span w h;
+      bodyLong = w .bodyLong;
+      spanLong = w .spanLong;
+    }
 
 -- ---- complete
 
@@ -88,8 +100,7 @@ module _ (k : Kind) (a : Areas) (n nr : ℕ) (ids keys : List ℕ) (i end f m st
   window-lacks e =
       rw (← rd .counted, all-at (KeyOf n ids) keys ks (run .most) (here (run .most) (run .mostEnd)) .inside, run .isMost, own-window (run .most) (run .mostFrom) (run .mostEnd), sym (complete-same k a f m bytes old copied m (le-refl m)) ∙ e) refl
 
-  module _ (known : complete k (windowAreas f bytes (a .rows)) f m ≡ true) (stored : SumsStored k f bytes (a .rows) mark stamp m body span)
-      (e₁ : length body ≡ 1025) (e₂ : length span ≡ 1025) (t : ℕ) (h : i ≤ t) (g : t < end) where
+  module _ (w : InArrays k f m bytes (a .rows) mark stamp body span) (t : ℕ) (h : i ≤ t) (g : t < end) where
     abbrev id : ℕ
     id = wantedBy ids keys t
 
@@ -106,17 +117,17 @@ module _ (k : Kind) (a : Areas) (n nr : ℕ) (ids keys : List ℕ) (i end f m st
     pub window-complete : rowMissing k a (wantedBy ids keys t) ≡ false
     unfolding rowMissing
     window-complete =
-        rw (← rd .counted, own-window t h g, complete-less k a f (lookedAt k n id) m (run .looked t h g) (sym (complete-same k a f m bytes old copied m (le-refl m)) ∙ known)) (off (within n id))
+        rw (← rd .counted, own-window t h g, complete-less k a f (lookedAt k n id) m (run .looked t h g) (sym (complete-same k a f m bytes old copied m (le-refl m)) ∙ w .known)) (off (within n id))
       where
         off : (b : Bool) → (b && not true) ≡ false
         off true = refl
         off false = refl
 
     low : Right k f bytes (a .rows) j body span
-    low = stored .here j inside (run .marked t h g)
+    low = w .stored .here j inside (run .marked t h g)
 
     high : Right k f bytes (a .rows) (j + 1) body span
-    high = stored .next j inside (run .marked t h g)
+    high = w .stored .next j inside (run .marked t h g)
 
     body-here : getD body j 0 ≡ 8 * stridesAfter k a f j
     body-here = right-strides k a f m bytes old copied j body span (omega (arith, inside)) low
@@ -136,8 +147,8 @@ module _ (k : Kind) (a : Areas) (n nr : ℕ) (ids keys : List ℕ) (i end f m st
     pub window-summed : Summed body span j
     window-summed =
         record {
-          inBody = omega (arith, few, e₁);
-          inSpan = omega (arith, few, e₂);
+          inBody = omega (arith, few, w .bodyLong);
+          inSpan = omega (arith, few, w .spanLong);
           bodyRises = omega (arith, body-here, body-next, strides-more k a f j);
           spanRises = omega (arith, span-here, span-next, spans-more k a f j);
           bodyWhole = omega (arith, body-here, body-next);

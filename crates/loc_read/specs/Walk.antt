@@ -2,7 +2,7 @@
 -- ids are the wanted numbers, n is the count, nr counts the rows.
 use Prim.Native.Nat.{ℕ, _+_, _*_, _^_, _≤_, _<_}
 use mathlib.Core.Path.{_≡_}
-use mathlib.Core.Bool.{false}
+use mathlib.Core.Bool.{true, false}
 use mathlib.Core.List.{List}
 use lib.ListN.{length, getD}
 use Rattle.loc_leaf.specs.declared.Kind.{Kind}
@@ -13,8 +13,7 @@ use Rattle.loc_calls.specs.Table.{wordWidth}
 use Rattle.loc_calls.specs.Reading.{rowMissing, anyMissing, wordsFor}
 use Rattle.loc_order.specs.Keys.{placeOf, wantedBy}
 use Rattle.loc_answer.specs.Words.{Has}
-use Rattle.loc_window.specs.declared.Sums.{Sums}
-use Rattle.loc_window.specs.Window.{Rising, Summing}
+use Rattle.loc_window.specs.Window.{windowAreas, complete, Rising, SumsStored}
 
 -- what the walk asks of the areas: so many records and rows are published, and the rows ascend
 pub record Readable (k : Kind) (a : Areas) (n nr : ℕ) : Type 0 where
@@ -23,12 +22,12 @@ pub record Readable (k : Kind) (a : Areas) (n nr : ℕ) : Type 0 where
   pub low : 16 + 2 * n < 2 ^ 64
   pub rise : Rising k (a .rows) nr
 
--- all of a window's first m records are summed
-pub record WindowSummed (k : Kind) (f m : ℕ) (bytes rows : Bytes) (nr : ℕ) (mark : List ℕ) (stamp : ℕ) (body span : List ℕ) : Type 0 where
-  pub block : ℕ
-  pub sums : Sums
-  pub summing : Summing k 1025 f m bytes rows nr mark stamp block sums body span
-  pub ended : m ≤ 8 * block
+-- the sums of a window's first m records, of whose blocks some are marked, stand in reading's arrays
+pub record InArrays (k : Kind) (f m : ℕ) (bytes rows : Bytes) (mark : List ℕ) (stamp : ℕ) (body span : List ℕ) : Type 0 where
+  pub known : complete k (windowAreas f bytes rows) f m ≡ true
+  pub stored : SumsStored k f bytes rows mark stamp m body span
+  pub bodyLong : length body ≡ 1025
+  pub spanLong : length span ≡ 1025
 
 -- the words that are right at a place
 abbrev pub rightAt : Kind → Areas → List ℕ → ℕ → List ℕ

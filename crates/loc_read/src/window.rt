@@ -1,17 +1,13 @@
 // The reading of numbers that all lie in one window: no order is needed, and no stage.
 // The window's sums rule out 17 before the first answer is stored.
 ghost use mathlib.Core.Path.{_≡_};
-ghost use mathlib.Core.Bool.{true, false};
-ghost use Prim.Native.Nat.{_+_};
 ghost use lib.ListN.{length};
 ghost use Rattle.loc_leaf.specs.Area.{fill};
 ghost use Rattle.loc_calls.specs.Areas.{areas};
 ghost use Rattle.loc_calls.specs.Table.{read};
 ghost use Rattle.loc_calls.specs.Calls.{call};
 ghost use Rattle.loc_calls.specs.Promises.{Read};
-ghost use Rattle.loc_window.specs.Window.{windowAreas, complete, sumsOf, Summing};
 ghost use Rattle.loc_runs.specs.Runs.{OneRun};
-ghost use Rattle.loc_read.specs.Walk.{WindowSummed};
 ghost use Rattle.loc_read.specs.Read.{Tested};
 use loc_answer::put::put_window;
 use loc_leaf::Answer;
@@ -25,59 +21,7 @@ use loc_leaf::refusal::refused;
 use loc_window::Step;
 use loc_window::checkpoint::window_end;
 use loc_window::window::copy_slots;
-use loc_window::window::slot_step;
-
-// The sums of a window's first m records, of whose blocks those with 1 are marked; false where one of them lacks its row.
-fn window_sums(
-    kind: Kind,
-    bytes: &[u8],
-    m: usize,
-    mark: &[u64],
-    rows: &[u8],
-    row_count: usize,
-    first: u64,
-    body: &mut [u64],
-    span: &mut [u64],
-) -> bool
-    requires { ⌜ (length (now mark) ≡ 128) × Summing kind 1025 first m (now bytes) (now rows) «row_count» (now mark) 1 0 (sumsOf 0 0 («row_count» + 1) 0) (now body) (now span) ⌝ }
-    ensures { λ r. ⌜ (r ≡ true → WindowSummed kind first m (now (bytes .entry)) (now (rows .entry)) «row_count» (now (mark .entry)) 1 (now (body .exit)) (now (span .exit)))
-        × (r ≡ false → complete kind (windowAreas first (now (bytes .entry)) (now (rows .entry))) first m ≡ false) ⌝ }
-{
-    let mut strides: u64 = 0;
-    let mut spans: u64 = 0;
-    let mut row = row_count + 1;
-    let mut block: usize = 0;
-    while 8 * block < m {
-        let step = slot_step(
-            kind,
-            bytes,
-            block,
-            m,
-            mark,
-            1,
-            rows,
-            row_count,
-            first,
-            strides,
-            spans,
-            row,
-            body,
-            span,
-        );
-        match step {
-            Step::Next(t) => {
-                strides = t.strides;
-                spans = t.spans;
-                row = t.row;
-                block = t.block;
-            }
-            Step::Lack => {
-                return false;
-            }
-        }
-    }
-    true
-}
+use loc_window::window::window_sums;
 
 // The answers of a list that is one run, or 17.
 pub fn read_window(
@@ -107,21 +51,24 @@ pub fn read_window(
         2 * m,
         &mut bytes,
     );
-    if window_sums(
+    let step = window_sums(
         kind,
         &bytes,
         m,
         mark,
+        1,
         rows,
         row_count,
         first,
+        row_count + 1,
         &mut body,
         &mut span,
-    ) {
-        let body_end = window_end(kind, checkpoints, 0, w);
-        let span_end = window_end(kind, checkpoints, 8, w);
-        put_window(kind, wanted, body_end, span_end, &body, &span, answers);
-        return accepted(wanted.len() as u64);
-    }
-    refused(ROW_MISSING)
+    );
+    let Step::Next(_) = step else {
+        return refused(ROW_MISSING);
+    };
+    let body_end = window_end(kind, checkpoints, 0, w);
+    let span_end = window_end(kind, checkpoints, 8, w);
+    put_window(kind, wanted, body_end, span_end, &body, &span, answers);
+    accepted(wanted.len() as u64)
 }
