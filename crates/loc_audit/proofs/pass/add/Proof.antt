@@ -3,7 +3,6 @@ use borrow.Author.Needs.{needs}
 use Rattle.loc_audit.proofs.StepLaws.{add-body-past, add-span-past, add-both}
 use Rattle.loc_audit.proofs.pass.add.Statement.{statement}
 use Rattle.loc_audit.proofs.pass.add.Tie as tie
-use Rattle.loc_audit.proofs.pass.end_after.Reads as end-after-reads
 
 end-after-requires : tie.Need-end-after-requires
 end-after-requires c κs = search needs

@@ -3,7 +3,6 @@ use borrow.Author.Needs.{needs}
 use Rattle.loc_audit.proofs.StepLaws.{audit-next, audit-stays}
 use Rattle.loc_audit.proofs.pass.audit_step.Statement.{statement}
 use Rattle.loc_audit.proofs.pass.audit_step.Tie as tie
-use Rattle.loc_audit.proofs.pass.ends_after.Reads as ends-after-reads
 
 enum-known-before : tie.Need-enum-known-before
 enum-known-before c = search needs

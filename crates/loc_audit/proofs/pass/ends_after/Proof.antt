@@ -3,8 +3,6 @@ use borrow.Author.Needs.{needs}
 use Rattle.loc_audit.proofs.StepLaws.{step-holds, step-fails, step-unsound}
 use Rattle.loc_audit.proofs.pass.ends_after.Statement.{statement}
 use Rattle.loc_audit.proofs.pass.ends_after.Tie as tie
-use Rattle.loc_audit.proofs.pass.checkpoint_holds.Reads as checkpoint-holds-reads
-use Rattle.loc_audit.proofs.pass.record_step.Reads as record-step-reads
 
 record-step-requires : tie.Need-record-step-requires
 record-step-requires c κs = search needs

@@ -3,7 +3,6 @@ use borrow.Author.Needs.{needs}
 use Rattle.loc_audit.proofs.StepLaws.{sound-next, sound-not}
 use Rattle.loc_audit.proofs.pass.is_sound.Statement.{statement}
 use Rattle.loc_audit.proofs.pass.is_sound.Tie as tie
-use Rattle.loc_rows.proofs.is_end.Reads as is-end-reads
 
 enum-told : tie.Need-enum-told
 enum-told c = search needs

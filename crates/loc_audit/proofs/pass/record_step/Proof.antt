@@ -3,9 +3,6 @@ use borrow.Author.Needs.{needs}
 use Rattle.loc_audit.proofs.StepLaws.{record-found, record-missing}
 use Rattle.loc_audit.proofs.pass.record_step.Statement.{statement}
 use Rattle.loc_audit.proofs.pass.record_step.Tie as tie
-use Rattle.loc_audit.proofs.pass.add.Reads as add-reads
-use Rattle.loc_audit.proofs.pass.own_row.Reads as own-row-reads
-use Rattle.loc_audit.proofs.pass.slot_says.Reads as slot-says-reads
 
 own-row-requires : tie.Need-own-row-requires
 own-row-requires c κs = search needs
