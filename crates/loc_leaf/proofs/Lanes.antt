@@ -161,7 +161,7 @@ module _ (q : Four (2 ^ 16)) where
 -- ---- records that hold a 0
 
 -- 1 where a record of these two bytes needs a row, paired
-abbrev pub zeroBit : ℕ → ℕ → ℕ
+abbrev zeroBit : ℕ → ℕ → ℕ
 zeroBit x y = cond (needsRow Paired (x ∷ y ∷ [])) 1 0
 
 pub bit-lt : (b : Bool) → cond b 1 0 < 2

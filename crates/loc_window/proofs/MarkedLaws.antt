@@ -135,9 +135,6 @@ module _ (k : Kind) (f : ℕ) (bytes rows : Bytes) where
         after = after-at k f bytes rows (8 * s .block) (s .block + 1) s (r .after);
       }
 
-  pub recorded-to : (block from n n′ : ℕ) (body₀ span₀ body span : List ℕ) (r : Step) → n ≡ n′ → Recorded k f bytes rows block from n body₀ span₀ body span r → Recorded k f bytes rows block from n′ body₀ span₀ body span r
-  recorded-to block from n n′ body₀ span₀ body span r e v = subst (λ (i : ℕ). Recorded k f bytes rows block from i body₀ span₀ body span r) e v
-
 -- ---- some blocks
 
 module _ (k : Kind) (f m : ℕ) (bytes rows : Bytes) (mark : List ℕ) (stamp : ℕ) where
