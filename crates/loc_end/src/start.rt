@@ -52,9 +52,9 @@ fn list_end(
     ensures { λ r. ⌜ Ends kind (areas (now (slots .entry)) (now (rows .entry)) (now (checkpoints .entry))) r ⌝ }
 {
     let w = loc_window(count);
-    let first = LOC_WINDOW * w;
-    let m = (count - first) as usize;
-    let total = window_total(kind, slots, rows, row_count, first, m);
+    let base = LOC_WINDOW * w;
+    let m = (count - base) as usize;
+    let total = window_total(kind, slots, rows, row_count, base, m);
     if total.lacking != 0 {
         return End {
             number: ROW_MISSING,

@@ -49,10 +49,10 @@ pub fn finish_range_batch(
         let run = run_at(kind, count, wanted, keys, i, stamp, &mut mark);
         let m = run.m;
         let w = loc_window(wanted_by(wanted, keys, i));
-        let first = LOC_WINDOW * w;
+        let base = LOC_WINDOW * w;
         copy_slots(
             slots,
-            FILE_HEADER_LEN + 2 * first as usize,
+            FILE_HEADER_LEN + 2 * base as usize,
             2 * m,
             &mut bytes,
         );
@@ -70,7 +70,7 @@ pub fn finish_range_batch(
                 stamp,
                 rows,
                 row_count,
-                first,
+                base,
                 strides,
                 spans,
                 row,

@@ -44,10 +44,10 @@ pub fn read_window(
     let mut body = [0u64; 1025];
     let mut span = [0u64; 1025];
     let w = loc_window(wanted[0]);
-    let first = LOC_WINDOW * w;
+    let base = LOC_WINDOW * w;
     copy_slots(
         slots,
-        FILE_HEADER_LEN + 2 * first as usize,
+        FILE_HEADER_LEN + 2 * base as usize,
         2 * m,
         &mut bytes,
     );
@@ -59,7 +59,7 @@ pub fn read_window(
         1,
         rows,
         row_count,
-        first,
+        base,
         row_count + 1,
         &mut body,
         &mut span,

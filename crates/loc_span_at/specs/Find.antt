@@ -13,22 +13,22 @@ use Rattle.loc_span_at.specs.declared.Part.{Part}
 use Rattle.loc_span_at.specs.declared.Span.{Span}
 
 abbrev pub partOf : ℕ → ℕ → ℕ → ℕ → Part
-partOf first m row before = record { first = first; m = m; row = row; before = before }
+partOf base m row before = record { base = base; m = m; row = row; before = before }
 
 -- the part can be walked, and span t is one of its own
 pub record Holding (a : Areas) (nr t : ℕ) (p : Part) : Type 0 where
-  pub ready : Walkable (a .slots) (a .rows) nr (p .first) (p .m) (p .row)
-  pub known : complete Paired a (p .first) (p .m) ≡ true
+  pub ready : Walkable (a .slots) (a .rows) nr (p .base) (p .m) (p .row)
+  pub known : complete Paired a (p .base) (p .m) ≡ true
   pub fits : t < 2 ^ 61
   pub low : p .before ≤ t
-  pub high : t < p .before + spansAfter Paired a (p .first) (p .m)
+  pub high : t < p .before + spansAfter Paired a (p .base) (p .m)
 
 -- q is a part of p, `place` records further on
 pub record Inside (a : Areas) (p q : Part) : Type 0 where
   pub place : ℕ
-  pub isFirst : q .first ≡ p .first + place
+  pub isFirst : q .base ≡ p .base + place
   pub fits : place + q .m ≤ p .m
-  pub isBefore : q .before ≡ p .before + spansAfter Paired a (p .first) place
+  pub isBefore : q .before ≡ p .before + spansAfter Paired a (p .base) place
 
 -- a smaller part that still has the span
 pub record Halved (a : Areas) (nr t : ℕ) (p q : Part) : Type 0 where

@@ -30,7 +30,7 @@ fn half(
         slots,
         rows,
         row_count,
-        p.first,
+        p.base,
         m,
         p.row,
         mark,
@@ -43,14 +43,14 @@ fn half(
             let before = p.before + s.spans;
             if t < before {
                 return Part {
-                    first: p.first,
+                    base: p.base,
                     m,
                     row: p.row,
                     before: p.before,
                 };
             }
             Part {
-                first: p.first + m as u64,
+                base: p.base + m as u64,
                 m: p.m - m,
                 row: s.row,
                 before,
@@ -87,13 +87,13 @@ fn record_in(
     span: &mut [u64],
 ) -> Span
     requires { ⌜ ((c : Bytes) → Holding (areas (now slots) (now rows) c) «row_count» t p) × Lent (now mark) (now body) (now span) ⌝ }
-    ensures { λ r. ⌜ ((c : Bytes) → Crossed (areas (now (slots .entry)) (now (rows .entry)) c) (p .first) (p .m) (p .before) t r) ⌝ }
+    ensures { λ r. ⌜ ((c : Bytes) → Crossed (areas (now (slots .entry)) (now (rows .entry)) c) (p .base) (p .m) (p .before) t r) ⌝ }
 {
     totals(
         slots,
         rows,
         row_count,
-        p.first,
+        p.base,
         p.m,
         p.row,
         mark,
@@ -105,7 +105,7 @@ fn record_in(
     let k = first_above(span, p.m, left);
     let passed = span[k] / 8;
     Span {
-        record: p.first + k as u64 + 1,
+        record: p.base + k as u64 + 1,
         index: left - passed,
     }
 }
@@ -122,7 +122,7 @@ pub fn find(
     span: &mut [u64],
 ) -> Span
     requires { ⌜ ((c : Bytes) → Holding (areas (now slots) (now rows) c) «row_count» t part) × Lent (now mark) (now body) (now span) ⌝ }
-    ensures { λ r. ⌜ ((c : Bytes) → Crossed (areas (now (slots .entry)) (now (rows .entry)) c) (part .first) (part .m) (part .before) t r) ⌝ }
+    ensures { λ r. ⌜ ((c : Bytes) → Crossed (areas (now (slots .entry)) (now (rows .entry)) c) (part .base) (part .m) (part .before) t r) ⌝ }
 {
     let mut p = part;
     while 8 < p.m {

@@ -3,9 +3,9 @@
 pub mod find;
 pub mod windows;
 
-// Records among which a span of a window is looked for: m that follow `first`, with `row` rows and `before` of the window's spans passed.
+// Records among which a span of a window is looked for: m that follow `base`, with `row` rows and `before` of the window's spans passed.
 pub struct Part {
-    pub first: u64,
+    pub base: u64,
     pub m: usize,
     pub row: usize,
     pub before: u64,

@@ -99,7 +99,7 @@ fn first_crossing(
     if spans_hold(start, before, total, address) {
         let at = address - start;
         let part = Part {
-            first: QUARTER * q,
+            base: QUARTER * q,
             m,
             row,
             before,

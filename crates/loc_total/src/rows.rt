@@ -18,16 +18,16 @@ fn with_row(
     m: usize,
     rows: &[u8],
     row_count: usize,
-    first: u64,
+    base: u64,
     row: usize,
     id: u64,
     t: Total,
 ) -> Total
-    requires { ⌜ RowsReady kind first (now bytes) (now rows) «row_count» m × WithRows kind first (now bytes) (now rows) m (row + 1) t ⌝ }
-    requires { ⌜ (row < «row_count») × (id ≡ numberIn (rowList kind (now rows)) row) × (first < id) ⌝ }
-    ensures { λ r. ⌜ WithRows kind first (now (bytes .entry)) (now (rows .entry)) m row r ⌝ }
+    requires { ⌜ RowsReady kind base (now bytes) (now rows) «row_count» m × WithRows kind base (now bytes) (now rows) m (row + 1) t ⌝ }
+    requires { ⌜ (row < «row_count») × (id ≡ numberIn (rowList kind (now rows)) row) × (base < id) ⌝ }
+    ensures { λ r. ⌜ WithRows kind base (now (bytes .entry)) (now (rows .entry)) m row r ⌝ }
 {
-    let j = id - first - 1;
+    let j = id - base - 1;
     if m as u64 <= j {
         return t;
     }
@@ -49,28 +49,28 @@ fn with_row(
     t
 }
 
-// All rows that are numbered above `first`.
+// All rows that are numbered above `base`.
 pub fn with_rows(
     kind: Kind,
     bytes: &[u8],
     m: usize,
     rows: &[u8],
     row_count: usize,
-    first: u64,
+    base: u64,
     slots: Total,
 ) -> Total
-    requires { ⌜ RowsReady kind first (now bytes) (now rows) «row_count» m × WithRows kind first (now bytes) (now rows) m «row_count» slots ⌝ }
-    ensures { λ r. ⌜ WithRows kind first (now (bytes .entry)) (now (rows .entry)) m 0 r ⌝ }
+    requires { ⌜ RowsReady kind base (now bytes) (now rows) «row_count» m × WithRows kind base (now bytes) (now rows) m «row_count» slots ⌝ }
+    ensures { λ r. ⌜ WithRows kind base (now (bytes .entry)) (now (rows .entry)) m 0 r ⌝ }
 {
     let mut t = slots;
     let mut row = row_count;
     while 0 < row {
         row -= 1;
         let id = row_number(kind, rows, row_count, row);
-        if id <= first {
+        if id <= base {
             return t;
         }
-        t = with_row(kind, bytes, m, rows, row_count, first, row, id, t);
+        t = with_row(kind, bytes, m, rows, row_count, base, row, id, t);
     }
     t
 }

@@ -17,28 +17,28 @@ fn part_total(
     m: usize,
     rows: &[u8],
     row_count: usize,
-    first: u64,
+    base: u64,
 ) -> Total
-    requires { ⌜ RowsReady kind first (now bytes) (now rows) «row_count» m ⌝ }
-    ensures { λ r. ⌜ Totalled kind (windowAreas first (now (bytes .entry)) (now (rows .entry))) first m r ⌝ }
+    requires { ⌜ RowsReady kind base (now bytes) (now rows) «row_count» m ⌝ }
+    ensures { λ r. ⌜ Totalled kind (windowAreas base (now (bytes .entry)) (now (rows .entry))) base m r ⌝ }
 {
     let t = slots_total(kind, bytes, m);
-    with_rows(kind, bytes, m, rows, row_count, first, t)
+    with_rows(kind, bytes, m, rows, row_count, base, t)
 }
 
-// What the m records after record `first` add up to, and how many of them lack their row.
+// What the m records after record `base` add up to, and how many of them lack their row.
 pub fn window_total(
     kind: Kind,
     slots: &[u8],
     rows: &[u8],
     row_count: usize,
-    first: u64,
+    base: u64,
     m: usize,
 ) -> Total
-    requires { ⌜ Walkable kind (now slots) (now rows) «row_count» first m ⌝ }
-    ensures { λ r. ⌜ ((c : Bytes) → Totalled kind (areas (now (slots .entry)) (now (rows .entry)) c) first m r) ⌝ }
+    requires { ⌜ Walkable kind (now slots) (now rows) «row_count» base m ⌝ }
+    ensures { λ r. ⌜ ((c : Bytes) → Totalled kind (areas (now (slots .entry)) (now (rows .entry)) c) base m r) ⌝ }
 {
-    let at = FILE_HEADER_LEN + 2 * first as usize;
+    let at = FILE_HEADER_LEN + 2 * base as usize;
     let end = at + 2 * m;
-    part_total(kind, &slots[at..end], m, rows, row_count, first)
+    part_total(kind, &slots[at..end], m, rows, row_count, base)
 }

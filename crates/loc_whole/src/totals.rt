@@ -13,7 +13,7 @@ pub fn totals(
     slots: &[u8],
     rows: &[u8],
     row_count: usize,
-    first: u64,
+    base: u64,
     m: usize,
     row: usize,
     mark: &[u64],
@@ -21,10 +21,10 @@ pub fn totals(
     body: &mut [u64],
     span: &mut [u64],
 ) -> Step
-    requires { ⌜ Walkable (now slots) (now rows) «row_count» first m row × Lent (now mark) (now body) (now span) ⌝ }
-    ensures { λ r. ⌜ ((c : Bytes) → Totalled (areas (now (slots .entry)) (now (rows .entry)) c) first m stamp (now (span .exit)) r) ⌝ }
+    requires { ⌜ Walkable (now slots) (now rows) «row_count» base m row × Lent (now mark) (now body) (now span) ⌝ }
+    ensures { λ r. ⌜ ((c : Bytes) → Totalled (areas (now (slots .entry)) (now (rows .entry)) c) base m stamp (now (span .exit)) r) ⌝ }
 {
-    let at = FILE_HEADER_LEN + 2 * first as usize;
+    let at = FILE_HEADER_LEN + 2 * base as usize;
     let end = at + 2 * m;
     window_sums(
         Kind::Paired,
@@ -34,7 +34,7 @@ pub fn totals(
         stamp,
         rows,
         row_count,
-        first,
+        base,
         row,
         body,
         span,

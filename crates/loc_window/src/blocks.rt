@@ -119,9 +119,9 @@ pub fn mask_after(mask: u64, z: usize) -> u64
 }
 
 // One block of which some records need rows: its bytes added up, then each such record's row put in place of its bytes.
-fn block_rows(kind: Kind, bytes: &[u8], rows: &[u8], count: usize, first: u64, s: Sums) -> Step
-    requires { ⌜ BlockReady kind first (now bytes) (now rows) count (s .block + 1) s ⌝ }
-    ensures { λ r. ⌜ BlockStepped kind first (now (bytes .entry)) (now (rows .entry)) (s .block) r ⌝ }
+fn block_rows(kind: Kind, bytes: &[u8], rows: &[u8], count: usize, base: u64, s: Sums) -> Step
+    requires { ⌜ BlockReady kind base (now bytes) (now rows) count (s .block + 1) s ⌝ }
+    ensures { λ r. ⌜ BlockStepped kind base (now (bytes .entry)) (now (rows .entry)) (s .block) r ⌝ }
 {
     let lo = word_at(bytes, 16 * s.block);
     let hi = word_at(bytes, 16 * s.block + 8);
@@ -134,7 +134,7 @@ fn block_rows(kind: Kind, bytes: &[u8], rows: &[u8], count: usize, first: u64, s
     while left != 0 {
         let z = lowest_record(left as u8) as usize;
         j += z;
-        row = find_row(kind, rows, count, row, first + j as u64 + 1);
+        row = find_row(kind, rows, count, row, base + j as u64 + 1);
         if row == count {
             return Step::Lack;
         }
@@ -163,11 +163,11 @@ pub fn blocks(
     stamp: u64,
     rows: &[u8],
     count: usize,
-    first: u64,
+    base: u64,
     s: Sums,
 ) -> Step
-    requires { ⌜ BlockReady kind first (now bytes) (now rows) count full s × (full ≤ length (now mark)) ⌝ }
-    ensures { λ r. ⌜ BlocksPassed kind first (now (bytes .entry)) (now (rows .entry)) (now (mark .entry)) stamp (s .block) full r ⌝ }
+    requires { ⌜ BlockReady kind base (now bytes) (now rows) count full s × (full ≤ length (now mark)) ⌝ }
+    ensures { λ r. ⌜ BlocksPassed kind base (now (bytes .entry)) (now (rows .entry)) (now (mark .entry)) stamp (s .block) full r ⌝ }
 {
     let mut t = plain(kind, bytes, full, mark, stamp, s);
     while t.block < full {
@@ -175,7 +175,7 @@ pub fn blocks(
         if mark[b] == stamp {
             return Step::Next(t);
         }
-        let step = block_rows(kind, bytes, rows, count, first, t);
+        let step = block_rows(kind, bytes, rows, count, base, t);
         match step {
             Step::Next(u) => {
                 t = plain(kind, bytes, full, mark, stamp, u);

@@ -18,16 +18,16 @@ fn one_record(
     k: usize,
     rows: &[u8],
     count: usize,
-    first: u64,
+    base: u64,
     s: Sums,
 ) -> Step
-    requires { ⌜ (k < 1024) × (2 * k + 1 < length (now bytes)) × (first + 1024 < 2 ^ 64) × Rising kind (now rows) count × After kind first (now bytes) (now rows) k s ⌝ }
-    ensures { λ r. ⌜ OneRecorded kind first (now (bytes .entry)) (now (rows .entry)) (s .block) k r ⌝ }
+    requires { ⌜ (k < 1024) × (2 * k + 1 < length (now bytes)) × (base + 1024 < 2 ^ 64) × Rising kind (now rows) count × After kind base (now bytes) (now rows) k s ⌝ }
+    ensures { λ r. ⌜ OneRecorded kind base (now (bytes .entry)) (now (rows .entry)) (s .block) k r ⌝ }
 {
     let low = bytes[2 * k];
     let high = bytes[2 * k + 1];
     if needs_row(kind, low, high) {
-        let row = find_row(kind, rows, count, s.row, first + k as u64 + 1);
+        let row = find_row(kind, rows, count, s.row, base + k as u64 + 1);
         if row == count {
             return Step::Lack;
         }
@@ -56,20 +56,20 @@ pub fn records(
     n: usize,
     rows: &[u8],
     count: usize,
-    first: u64,
+    base: u64,
     s: Sums,
     body: &mut [u64],
     span: &mut [u64],
 ) -> Step
-    requires { ⌜ Ready kind first (now bytes) (now rows) count from n s (now body) (now span) ⌝ }
-    ensures { λ r. ⌜ Recorded kind first (now (bytes .entry)) (now (rows .entry)) (s .block) from n (now (body .entry)) (now (span .entry)) (now (body .exit)) (now (span .exit)) r ⌝ }
+    requires { ⌜ Ready kind base (now bytes) (now rows) count from n s (now body) (now span) ⌝ }
+    ensures { λ r. ⌜ Recorded kind base (now (bytes .entry)) (now (rows .entry)) (s .block) from n (now (body .entry)) (now (span .entry)) (now (body .exit)) (now (span .exit)) r ⌝ }
 {
     let mut t = s;
     let mut k = from;
     body[k] = 8 * t.strides;
     span[k] = 8 * t.spans;
     while k < n {
-        let step = one_record(kind, bytes, k, rows, count, first, t);
+        let step = one_record(kind, bytes, k, rows, count, base, t);
         match step {
             Step::Next(u) => {
                 t = u;

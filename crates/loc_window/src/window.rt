@@ -1,5 +1,5 @@
 // The sums of a window's records, one after the other and by blocks of eight.
-// `first` is the record before the window; record k of the window is numbered first + k + 1.
+// `base` records stand before the window; record k of the window is numbered base + k + 1.
 ghost use mathlib.Core.Path.{_≡_};
 ghost use Prim.Native.Nat.{ℕ, _+_, _*_, _^_, _<_, _≤_, min};
 ghost use lib.ListN.{length, getD};
@@ -60,13 +60,13 @@ fn marked_block(
     m: usize,
     rows: &[u8],
     count: usize,
-    first: u64,
+    base: u64,
     s: Sums,
     body: &mut [u64],
     span: &mut [u64],
 ) -> Step
-    requires { ⌜ (8 * s .block < m) × Ready kind first (now bytes) (now rows) count (8 * s .block) m s (now body) (now span) ⌝ }
-    ensures { λ r. ⌜ Recorded kind first (now (bytes .entry)) (now (rows .entry)) (s .block + 1) (8 * s .block) (min (8 * (s .block + 1)) m) (now (body .entry)) (now (span .entry)) (now (body .exit)) (now (span .exit)) r ⌝ }
+    requires { ⌜ (8 * s .block < m) × Ready kind base (now bytes) (now rows) count (8 * s .block) m s (now body) (now span) ⌝ }
+    ensures { λ r. ⌜ Recorded kind base (now (bytes .entry)) (now (rows .entry)) (s .block + 1) (8 * s .block) (min (8 * (s .block + 1)) m) (now (body .entry)) (now (span .entry)) (now (body .exit)) (now (span .exit)) r ⌝ }
 {
     let from = 8 * s.block;
     if from + 8 <= m {
@@ -93,7 +93,7 @@ fn marked_block(
         row: s.row,
         block: s.block + 1,
     };
-    records(kind, bytes, from, n, rows, count, first, t, body, span)
+    records(kind, bytes, from, n, rows, count, base, t, body, span)
 }
 
 // The marked blocks that follow. A last block that is not whole counts as marked.
@@ -105,19 +105,19 @@ fn marked_blocks(
     stamp: u64,
     rows: &[u8],
     count: usize,
-    first: u64,
+    base: u64,
     s: Sums,
     body: &mut [u64],
     span: &mut [u64],
 ) -> Step
-    requires { ⌜ (length (now mark) ≡ 128) × (8 * s .block < m) × Ready kind first (now bytes) (now rows) count (8 * s .block) m s (now body) (now span) ⌝ }
-    requires { ⌜ SumsStored kind first (now bytes) (now rows) (now mark) stamp (8 * s .block) (now body) (now span) ⌝ }
-    ensures { λ r. ⌜ SlotStepped kind first (now (bytes .entry)) (now (rows .entry)) (now (mark .entry)) stamp (s .block) m (now (body .exit)) (now (span .exit)) r ⌝ }
+    requires { ⌜ (length (now mark) ≡ 128) × (8 * s .block < m) × Ready kind base (now bytes) (now rows) count (8 * s .block) m s (now body) (now span) ⌝ }
+    requires { ⌜ SumsStored kind base (now bytes) (now rows) (now mark) stamp (8 * s .block) (now body) (now span) ⌝ }
+    ensures { λ r. ⌜ SlotStepped kind base (now (bytes .entry)) (now (rows .entry)) (now (mark .entry)) stamp (s .block) m (now (body .exit)) (now (span .exit)) r ⌝ }
 {
     let end = marked_end(mark, stamp, s.block, (m + 7) / 8);
     let mut t = s;
     while t.block < end {
-        let step = marked_block(kind, bytes, m, rows, count, first, t, body, span);
+        let step = marked_block(kind, bytes, m, rows, count, base, t, body, span);
         match step {
             Step::Next(u) => {
                 t = u;
@@ -141,16 +141,16 @@ pub fn slot_step(
     stamp: u64,
     rows: &[u8],
     count: usize,
-    first: u64,
+    base: u64,
     strides: u64,
     spans: u64,
     row: usize,
     body: &mut [u64],
     span: &mut [u64],
 ) -> Step
-    requires { ⌜ (length (now mark) ≡ 128) × (8 * block < m) × Ready kind first (now bytes) (now rows) count (8 * block) m (sumsOf strides spans row block) (now body) (now span) ⌝ }
-    requires { ⌜ SumsStored kind first (now bytes) (now rows) (now mark) stamp (8 * block) (now body) (now span) ⌝ }
-    ensures { λ r. ⌜ SlotStepped kind first (now (bytes .entry)) (now (rows .entry)) (now (mark .entry)) stamp block m (now (body .exit)) (now (span .exit)) r ⌝ }
+    requires { ⌜ (length (now mark) ≡ 128) × (8 * block < m) × Ready kind base (now bytes) (now rows) count (8 * block) m (sumsOf strides spans row block) (now body) (now span) ⌝ }
+    requires { ⌜ SumsStored kind base (now bytes) (now rows) (now mark) stamp (8 * block) (now body) (now span) ⌝ }
+    ensures { λ r. ⌜ SlotStepped kind base (now (bytes .entry)) (now (rows .entry)) (now (mark .entry)) stamp block m (now (body .exit)) (now (span .exit)) r ⌝ }
 {
     let s = Sums {
         strides,
@@ -158,7 +158,7 @@ pub fn slot_step(
         row,
         block,
     };
-    let step = blocks(kind, bytes, m / 8, mark, stamp, rows, count, first, s);
+    let step = blocks(kind, bytes, m / 8, mark, stamp, rows, count, base, s);
     match step {
         Step::Next(t) => {
             if m <= 8 * t.block {
@@ -172,7 +172,7 @@ pub fn slot_step(
                 stamp,
                 rows,
                 count,
-                first,
+                base,
                 t,
                 body,
                 span,
@@ -191,13 +191,13 @@ pub fn window_sums(
     stamp: u64,
     rows: &[u8],
     count: usize,
-    first: u64,
+    base: u64,
     row: usize,
     body: &mut [u64],
     span: &mut [u64],
 ) -> Step
-    requires { ⌜ (length (now mark) ≡ 128) × Summing kind (length (now body)) first m (now bytes) (now rows) count (now mark) stamp 0 (sumsOf 0 0 row 0) (now body) (now span) ⌝ }
-    ensures { λ r. ⌜ WindowSummed kind first (now (bytes .entry)) (now (rows .entry)) (now (mark .entry)) stamp m (now (body .exit)) (now (span .exit)) r ⌝ }
+    requires { ⌜ (length (now mark) ≡ 128) × Summing kind (length (now body)) base m (now bytes) (now rows) count (now mark) stamp 0 (sumsOf 0 0 row 0) (now body) (now span) ⌝ }
+    ensures { λ r. ⌜ WindowSummed kind base (now (bytes .entry)) (now (rows .entry)) (now (mark .entry)) stamp m (now (body .exit)) (now (span .exit)) r ⌝ }
 {
     let mut strides: u64 = 0;
     let mut spans: u64 = 0;
@@ -213,7 +213,7 @@ pub fn window_sums(
             stamp,
             rows,
             count,
-            first,
+            base,
             strides,
             spans,
             passed,

@@ -11,8 +11,8 @@ use Rattle.loc_end.proofs.start.list_end.Tie as tie
 loc-window-requires : tie.Need-loc-window-requires
 loc-window-requires c κs = search needs
 
-mul-first : tie.Need-mul-first
-mul-first c = search needs
+mul-base : tie.Need-mul-base
+mul-base c = search needs
 
 sub-m : tie.Need-sub-m
 sub-m c = search needs
@@ -45,7 +45,7 @@ list-end-spec =
     tie.close
     (tie.spec
     loc-window-requires
-    mul-first
+    mul-base
     sub-m
     window-total-requires
     returns

@@ -19,10 +19,10 @@ use Rattle.loc_read.proofs.walk.finish_range_batch.Statement.{statement
 use Rattle.loc_read.proofs.walk.finish_range_batch.Tie as tie
 
 abbrev Inv-loop : tie.InvT-loop
-Inv-loop kind slots rows checkpoints count row-count wanted keys out bytes body₀ span₀ mark number₀ i stamp run m w first strides₀ spans₀ row₀ block₀ body span number strides spans row block = (number ≡ 0) × Summing kind 1025 first m bytes rows row-count mark stamp block (sumsOf strides spans row block) body span
+Inv-loop kind slots rows checkpoints count row-count wanted keys out bytes body₀ span₀ mark number₀ i stamp run m w base strides₀ spans₀ row₀ block₀ body span number strides spans row block = (number ≡ 0) × Summing kind 1025 base m bytes rows row-count mark stamp block (sumsOf strides spans row block) body span
 
 abbrev μ-loop : tie.MeasureT-loop
-μ-loop kind slots rows checkpoints count row-count wanted keys out bytes body₀ span₀ mark number₀ i stamp run m w first strides₀ spans₀ row₀ block₀ body span number strides spans row block = m + 8 - 8 * block
+μ-loop kind slots rows checkpoints count row-count wanted keys out bytes body₀ span₀ mark number₀ i stamp run m w base strides₀ spans₀ row₀ block₀ body span number strides spans row block = m + 8 - 8 * block
 
 abbrev Inv-windows : tie.InvT-windows
 Inv-windows kind slots rows checkpoints count row-count wanted keys out₀ bytes₀ body₀ span₀ mark₀ number₀ i₀ out bytes body span mark number i = (number ≡ 0) × (length bytes ≡ 2048) × (length body ≡ 1025) × (length span ≡ 1025) × (length mark ≡ 128) × Passing kind (areas slots rows checkpoints) wanted keys i out₀ out
@@ -48,8 +48,8 @@ wanted-by-requires c κs = (c .before .before .before .windows-test .taken, key-
 loc-window-requires : tie.Need-loc-window-requires Inv-loop μ-loop Inv-windows μ-windows
 loc-window-requires c κs = search needs
 
-mul-first : tie.Need-mul-first Inv-loop μ-loop Inv-windows μ-windows
-mul-first c = omega (arith, run-low _ _ _ _ _ _ (c .before .before .before .before .before .before .before .before .before .before .before .before .before .pre .0) (ordered-keys _ _ _ (c .before .before .before .before .before .before .before .before .before .before .before .before .before .pre .1 .0) (c .before .before .before .before .before .before .before .before .before .before .before .before .before .pre .1 .1)) _ _ _ _ _ (c .before .before .before .run-at .ensures) _ (ap (λ (x : ℕ). 1024 * x) (c .loc-window .ensures ∙ ap windowOf (c .before .wanted-by .ensures))))
+mul-base : tie.Need-mul-base Inv-loop μ-loop Inv-windows μ-windows
+mul-base c = omega (arith, run-low _ _ _ _ _ _ (c .before .before .before .before .before .before .before .before .before .before .before .before .before .pre .0) (ordered-keys _ _ _ (c .before .before .before .before .before .before .before .before .before .before .before .before .before .pre .1 .0) (c .before .before .before .before .before .before .before .before .before .before .before .before .before .pre .1 .1)) _ _ _ _ _ (c .before .before .before .run-at .ensures) _ (ap (λ (x : ℕ). 1024 * x) (c .loc-window .ensures ∙ ap windowOf (c .before .wanted-by .ensures))))
 
 mul-copy-slots : tie.Need-mul-copy-slots Inv-loop μ-loop Inv-windows μ-windows
 mul-copy-slots c = omega (arith, run-published _ _ _ _ _ _ (c .before .before .before .before .before .before .before .before .before .before .before .before .before .pre .0) (ordered-keys _ _ _ (c .before .before .before .before .before .before .before .before .before .before .before .before .before .pre .1 .0) (c .before .before .before .before .before .before .before .before .before .before .before .before .before .pre .1 .1)) _ _ _ _ _ (c .before .before .before .run-at .ensures) _ (ap (λ (x : ℕ). 1024 * x) (c .loc-window .ensures ∙ ap windowOf (c .before .wanted-by .ensures))), c .before .before .before .before .before .before .before .before .before .before .before .before .before .pre .0 .low)
@@ -155,7 +155,7 @@ finish-range-batch-spec =
     run-at-requires
     wanted-by-requires
     loc-window-requires
-    mul-first
+    mul-base
     mul-copy-slots
     add-copy-slots
     mul-copy-slots-2

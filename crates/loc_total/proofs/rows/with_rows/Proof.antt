@@ -9,10 +9,10 @@ use Rattle.loc_total.proofs.rows.with_rows.Statement.{statement}
 use Rattle.loc_total.proofs.rows.with_rows.Tie as tie
 
 abbrev Inv-loop : tie.InvT-loop
-Inv-loop kind bytes m rows row-count first t₀ row₀ t row = (row ≤ row-count) × WithRows kind first bytes rows m row t
+Inv-loop kind bytes m rows row-count base t₀ row₀ t row = (row ≤ row-count) × WithRows kind base bytes rows m row t
 
 abbrev μ-loop : tie.MeasureT-loop
-μ-loop kind bytes m rows row-count first t₀ row₀ t row = row
+μ-loop kind bytes m rows row-count base t₀ row₀ t row = row
 
 loop-holds : tie.Need-loop-holds Inv-loop μ-loop
 loop-holds c = (omega arith, c .before .before .pre .1)

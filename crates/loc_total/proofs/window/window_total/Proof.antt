@@ -32,7 +32,7 @@ part-total-requires : tie.Need-part-total-requires
 part-total-requires c κs = search needs
 
 returns : tie.Need-returns
-returns c = λ x. part-totalled (c .before .before .before .before .args .kind) (now (c .before .before .before .before .args .slots)) (now (c .before .before .before .before .args .rows)) x (c .before .before .before .before .args .first) (c .before .before .before .before .args .m) (16 + 2 * c .before .before .before .before .args .first + 2 * c .before .before .before .before .args .m - (16 + 2 * c .before .before .before .before .args .first)) (omega arith) _ (c .part-total .ensures)
+returns c = λ x. part-totalled (c .before .before .before .before .args .kind) (now (c .before .before .before .before .args .slots)) (now (c .before .before .before .before .args .rows)) x (c .before .before .before .before .args .base) (c .before .before .before .before .args .m) (16 + 2 * c .before .before .before .before .args .base + 2 * c .before .before .before .before .args .m - (16 + 2 * c .before .before .before .before .args .base)) (omega arith) _ (c .part-total .ensures)
 
 pub window-total-spec : {M : Type 1} → statement M
 window-total-spec =

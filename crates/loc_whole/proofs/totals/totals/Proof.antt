@@ -31,7 +31,7 @@ part-window-sums-end c = search needs
 window-sums-requires : tie.Need-window-sums-requires
 window-sums-requires c κs =
     let a = c .before .before .before .before .before .before .before .before in
-    totals-ask (now (a .args .slots)) (now (a .args .rows)) _ _ _ _ (a .pre .0) (16 + 2 * a .args .first + 2 * a .args .m - (16 + 2 * a .args .first)) (omega arith) _ _ _ _ (a .pre .1)
+    totals-ask (now (a .args .slots)) (now (a .args .rows)) _ _ _ _ (a .pre .0) (16 + 2 * a .args .base + 2 * a .args .m - (16 + 2 * a .args .base)) (omega arith) _ _ _ _ (a .pre .1)
 
 same-length : tie.Need-same-length
 same-length c = search needs
@@ -42,7 +42,7 @@ same-length-2 c = search needs
 returns : tie.Need-returns
 returns c =
     let a = c .before .before .before .before .before .before .before .before .before .before .before .before .before in
-    totals-are (now (a .args .slots)) (now (a .args .rows)) _ _ _ _ (a .pre .0) (16 + 2 * a .args .first + 2 * a .args .m - (16 + 2 * a .args .first)) (omega arith) _ _ _ _ _ (a .pre .1 .marks) (c .before .before .before .before .window-sums .ensures)
+    totals-are (now (a .args .slots)) (now (a .args .rows)) _ _ _ _ (a .pre .0) (16 + 2 * a .args .base + 2 * a .args .m - (16 + 2 * a .args .base)) (omega arith) _ _ _ _ _ (a .pre .1 .marks) (c .before .before .before .before .window-sums .ensures)
 
 pub totals-spec : {M : Type 1} → statement M
 totals-spec =

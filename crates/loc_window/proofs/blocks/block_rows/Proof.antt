@@ -10,10 +10,10 @@ use Rattle.loc_window.proofs.blocks.block_rows.Statement.{statement}
 use Rattle.loc_window.proofs.blocks.block_rows.Tie as tie
 
 abbrev Inv-loop : tie.InvT-loop
-Inv-loop kind bytes rows count first s lo hi x₀ y₀ row₀ left₀ j₀ x y row left j = Swaps kind first bytes rows (s .block) j x y row left
+Inv-loop kind bytes rows count base s lo hi x₀ y₀ row₀ left₀ j₀ x y row left j = Swaps kind base bytes rows (s .block) j x y row left
 
 abbrev μ-loop : tie.MeasureT-loop
-μ-loop kind bytes rows count first s lo hi x₀ y₀ row₀ left₀ j₀ x y row left j = 8 * s .block + 8 - j
+μ-loop kind bytes rows count base s lo hi x₀ y₀ row₀ left₀ j₀ x y row left j = 8 * s .block + 8 - j
 
 mul-word-at : tie.Need-mul-word-at Inv-loop μ-loop
 mul-word-at c = omega (arith, c .before .before .before .pre .few)

@@ -9,10 +9,10 @@ use Rattle.loc_window.proofs.blocks.blocks.Statement.{statement}
 use Rattle.loc_window.proofs.blocks.blocks.Tie as tie
 
 abbrev Inv-loop : tie.InvT-loop
-Inv-loop kind bytes full mark stamp rows count first t₀ t = BlocksAfter kind first bytes rows mark stamp (t₀ .block) full t
+Inv-loop kind bytes full mark stamp rows count base t₀ t = BlocksAfter kind base bytes rows mark stamp (t₀ .block) full t
 
 abbrev μ-loop : tie.MeasureT-loop
-μ-loop kind bytes full mark stamp rows count first t₀ t = full - t .block
+μ-loop kind bytes full mark stamp rows count base t₀ t = full - t .block
 
 plain-requires : tie.Need-plain-requires Inv-loop μ-loop
 plain-requires c κs = (c .before .before .before .pre .0 .order, c .before .before .before .pre .0 .few, c .before .before .before .pre .1, c .before .before .before .pre .0 .copied, omega (arith, after-small _ _ _ _ _ _ (omega (arith, c .before .before .before .pre .0 .order, c .before .before .before .pre .0 .few)) (c .before .before .before .pre .0 .after) .0), omega (arith, after-small _ _ _ _ _ _ (omega (arith, c .before .before .before .pre .0 .order, c .before .before .before .pre .0 .few)) (c .before .before .before .pre .0 .after) .1))

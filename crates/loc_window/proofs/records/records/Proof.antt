@@ -8,10 +8,10 @@ use Rattle.loc_window.proofs.records.records.Statement.{statement}
 use Rattle.loc_window.proofs.records.records.Tie as tie
 
 abbrev Inv-loop : tie.InvT-loop
-Inv-loop kind bytes from n rows count first body₀ span₀ t₀ k₀ body span t k = Walked kind first bytes rows from k n (t₀ .block) t body₀ span₀ body span
+Inv-loop kind bytes from n rows count base body₀ span₀ t₀ k₀ body span t k = Walked kind base bytes rows from k n (t₀ .block) t body₀ span₀ body span
 
 abbrev μ-loop : tie.MeasureT-loop
-μ-loop kind bytes from n rows count first body₀ span₀ t₀ k₀ body span t k = n - k
+μ-loop kind bytes from n rows count base body₀ span₀ t₀ k₀ body span t k = n - k
 
 mul-body : tie.Need-mul-body Inv-loop μ-loop
 mul-body c = search needs

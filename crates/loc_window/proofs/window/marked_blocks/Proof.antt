@@ -7,10 +7,10 @@ use Rattle.loc_window.proofs.window.marked_blocks.Statement.{statement}
 use Rattle.loc_window.proofs.window.marked_blocks.Tie as tie
 
 abbrev Inv-loop : tie.InvT-loop
-Inv-loop kind bytes m mark stamp rows count first body₀ span₀ end t₀ body span t = Marking kind first m bytes rows mark stamp t₀ t end body₀ span₀ body span
+Inv-loop kind bytes m mark stamp rows count base body₀ span₀ end t₀ body span t = Marking kind base m bytes rows mark stamp t₀ t end body₀ span₀ body span
 
 abbrev μ-loop : tie.MeasureT-loop
-μ-loop kind bytes m mark stamp rows count first body₀ span₀ end t₀ body span t = end - t .block
+μ-loop kind bytes m mark stamp rows count base body₀ span₀ end t₀ body span t = end - t .block
 
 add-marked-end : tie.Need-add-marked-end Inv-loop μ-loop
 add-marked-end c = search needs

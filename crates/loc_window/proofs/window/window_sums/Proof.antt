@@ -11,10 +11,10 @@ use Rattle.loc_window.proofs.window.window_sums.Statement.{statement}
 use Rattle.loc_window.proofs.window.window_sums.Tie as tie
 
 abbrev Inv-loop : tie.InvT-loop
-Inv-loop kind bytes m mark stamp rows count first row body₀ span₀ strides₀ spans₀ passed₀ block₀ body span strides spans passed block = Summing kind (length body₀) first m bytes rows count mark stamp block (sumsOf strides spans passed block) body span
+Inv-loop kind bytes m mark stamp rows count base row body₀ span₀ strides₀ spans₀ passed₀ block₀ body span strides spans passed block = Summing kind (length body₀) base m bytes rows count mark stamp block (sumsOf strides spans passed block) body span
 
 abbrev μ-loop : tie.MeasureT-loop
-μ-loop kind bytes m mark stamp rows count first row body₀ span₀ strides₀ spans₀ passed₀ block₀ body span strides spans passed block = m + 8 - 8 * block
+μ-loop kind bytes m mark stamp rows count base row body₀ span₀ strides₀ spans₀ passed₀ block₀ body span strides spans passed block = m + 8 - 8 * block
 
 loop-holds : tie.Need-loop-holds Inv-loop μ-loop
 loop-holds c = c .before .before .before .before .before .pre .1
