@@ -18,7 +18,7 @@ use Rattle.loc_audit.specs.declared.Ends.{Ends}
 use Rattle.loc_audit.specs.declared.Sum.the-variants.{Below, Past}
 use Rattle.loc_audit.specs.declared.Step.{Step}
 use Rattle.loc_audit.specs.declared.Step.the-variants.{Next, Unsound}
-use Rattle.loc_audit.specs.Pass.{ownRow, isOwn, isPassed, placeAfter, slotSays, endAfter, added, valued, recordStep, checkpointIs, checkpointHolds, tested, endsAfter, auditStep}
+use Rattle.loc_audit.specs.Pass.{ownRow, isOwn, placeAfter, slotSays, endAfter, added, valued, recordStep, checkpointIs, checkpointHolds, tested, endsAfter, auditStep}
 
 -- document 01's listing: body lengths 40 and 2,048 with 3 and 1 spans; the second record has a row
 abbrev slots : Bytes
@@ -44,9 +44,9 @@ ofSingle y r = endsAfter Single (replicate 18 7 ++ (0 ∷ y ∷ [])) [] 2 r (end
 pub record Computed : Type 0 where
   begins : rowAt 16 rows 16 ≡ second
   inlined : auditStep Paired slots [] 1 second (Next (ends 16 16)) ≡ Next (ends 56 40)
-  stays : placeAfter 16 (Next (ends 56 40)) second 1 16 ≡ 16
+  stays : placeAfter 16 second 1 16 ≡ 16
   by-row : auditStep Paired slots [] 2 second (Next (ends 56 40)) ≡ Next (ends 2104 48)
-  moves : placeAfter 16 (Next (ends 2104 48)) second 2 16 ≡ 32
+  moves : placeAfter 16 second 2 16 ≡ 32
   -- the reader stands behind the row, or the row is another's
   without : auditStep Paired slots [] 2 End (Next (ends 56 40)) ≡ Unsound
   another : auditStep Paired (replicate 16 7 ++ (0 ∷ 1 ∷ [])) [] 1 second (Next (ends 16 16)) ≡ Unsound
@@ -66,7 +66,7 @@ pub record Computed : Type 0 where
   none : checkpointHolds Paired checkpoints 1023 (ends 16 16) ≡ true
 
 pub computed : Computed
-unfolding number bytes numberAt needsRow inline slotAt row rowNumber checkpointAt rowFits rowWanted fields rowAt ownRow isOwn isPassed placeAfter slotSays endAfter added valued recordStep checkpointIs checkpointHolds tested endsAfter auditStep
+unfolding number bytes numberAt needsRow inline slotAt row rowNumber checkpointAt rowFits rowWanted fields rowAt ownRow isOwn placeAfter slotSays endAfter added valued recordStep checkpointIs checkpointHolds tested endsAfter auditStep
 computed = record {
   begins = refl;
   inlined = refl;

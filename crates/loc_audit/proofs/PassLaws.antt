@@ -27,13 +27,12 @@ use Rattle.loc_calls.specs.Areas.{Areas, areas, count}
 use Rattle.loc_calls.specs.Reading.{sumAfter, allAfter, lookupAt, has, valueAt, stridesAfter, spansAfter, windowEnd}
 use Rattle.loc_calls.specs.Audit.{bodyEndAfter, spanEndAfter, bothEnds, checkpointSound, rowFits, rowWanted, rowsSound, sound}
 use Rattle.loc_rows.specs.declared.Row.{Row}
-use Rattle.loc_rows.specs.declared.Row.the-variants.{End}
 use Rattle.loc_rows.specs.Reader.{rowAt, rowsFrom, isEnd}
 use Rattle.loc_rows.proofs.ReaderLaws.{row-none, rows-lent}
 use Rattle.loc_audit.specs.declared.Ends.{Ends}
 use Rattle.loc_audit.specs.declared.Step.{Step}
 use Rattle.loc_audit.specs.declared.Step.the-variants.{Next, Unsound}
-use Rattle.loc_audit.specs.Pass.{isOwn, isPassed, placeAfter, slotSays, added, valued, recordStep, checkpointIs, checkpointHolds, tested, endsAfter, auditStep, begin, goesOn, isSound, Auditable, Lent, Judges}
+use Rattle.loc_audit.specs.Pass.{isOwn, placeAfter, slotSays, added, valued, recordStep, checkpointIs, checkpointHolds, tested, endsAfter, auditStep, begin, goesOn, isSound, Auditable, Lent, Judges}
 use Rattle.loc_audit.proofs.RowPassLaws.{Left, ownWanted, soundFrom, Turn, turn, rows-left}
 
 -- ---- over the numbers from 1 on
@@ -226,7 +225,7 @@ module _ (k : Kind) (a : Areas) (xs : Bytes) (n at : ℕ) (e : Ends) (g : Audita
   row = rowAt (rowWidth k) xs at
 
   abbrev next : ℕ
-  next = cond (isOwn row (suc n)) (at + rowWidth k) at
+  next = placeAfter (rowWidth k) row (suc n) at
 
   there : Turn k a rs xs n at h (w .left) row next
   there = turn k a rs xs n at h (w .left)
@@ -354,12 +353,6 @@ module _ (k : Kind) (a : Areas) (xs : Bytes) (n at : ℕ) (e : Ends) (g : Audita
 
 -- ---- the loop
 
--- of unsound records it does not matter where the reader stands
-stepped-at : (k : Kind) (a : Areas) (xs : Bytes) (n w id at : ℕ) (row : Row) (q : Step) → Stepped k a xs n (cond (isOwn row id) (at + w) at) q → Stepped k a xs n (placeAfter w q row id at) q
-unfolding placeAfter isPassed
-stepped-at k a xs n w id at row (Next e) p = p
-stepped-at k a xs n w id at row Unsound p = p
-
 -- the invariant: the records up to n are passed
 pub record Passing (k : Kind) (s r c xs : Bytes) (m n at : ℕ) (q : Step) : Type 0 where
   pub inside : n ≤ m
@@ -375,11 +368,11 @@ module _ (k : Kind) (s r c xs : Bytes) (m : ℕ) (g : Lent k s r c xs m) where
       there-is : row ≡ rowAt (rowWidth k) xs at
       there-is = rw (← ew) er
 
-      pub passing-next : (q : Step) → Passing k s r c xs m n at q → goesOn q n m ≡ true → (q′ : Step) → q′ ≡ auditStep k s c (n + 1) row q → (at′ : ℕ) → at′ ≡ placeAfter w q′ row (n + 1) at → Passing k s r c xs m (n + 1) at′ q′
+      pub passing-next : (q : Step) → Passing k s r c xs m n at q → goesOn q n m ≡ true → (q′ : Step) → q′ ≡ auditStep k s c (n + 1) row q → (at′ : ℕ) → at′ ≡ placeAfter w row (n + 1) at → Passing k s r c xs m (n + 1) at′ q′
       unfolding goesOn auditStep count
       passing-next (Next e) p t q′ eq at′ ea =
           let h : n < m = ltb-true n m t in
-          record { inside = omega arith; stepped = rw (ea, eq) (stepped-at k (areas s r c) xs (n + 1) w (n + 1) at row (endsAfter k s c (n + 1) row e) (rw (ew, there-is, add-one n) (pass-turn k (areas s r c) xs n at e (g .auditable) (omega (arith, g .isCount)) (p .stepped)))) }
+          record { inside = omega arith; stepped = rw (eq, ea, ew, there-is, add-one n) (pass-turn k (areas s r c) xs n at e (g .auditable) (omega (arith, g .isCount)) (p .stepped)) }
       passing-next Unsound p t q′ eq at′ ea = absurd (false≢true t)
 
       pub passing-ends : (q : Step) → Passing k s r c xs m n at q → goesOn q n m ≡ false → (b : Bool) → b ≡ isSound q row → b ≡ sound k (areas s r c)
@@ -395,27 +388,23 @@ unfolding goesOn
 goes-below (Next e) n m t = ltb-true n m t
 goes-below Unsound n m t = absurd (false≢true t)
 
--- the reader goes on past a row, which stands there whole, or stays
-module _ (w at id : ℕ) (q : Step) (row : Row) where
-  pub place-on : isPassed q row id ≡ true → at + w ≡ placeAfter w q row id at
+-- the reader moves past a record's own row, which stands there whole, and stays else
+module _ (w at id : ℕ) (row : Row) where
+  pub place-own : isOwn row id ≡ true → at + w ≡ placeAfter w row id at
   unfolding placeAfter
-  place-on t = rw t refl
+  place-own t = rw t refl
 
-  pub place-same : isPassed q row id ≡ false → at ≡ placeAfter w q row id at
+  pub place-same : isOwn row id ≡ false → at ≡ placeAfter w row id at
   unfolding placeAfter
   place-same t = rw t refl
 
-passed-end : (q : Step) (id : ℕ) → isPassed q End id ≡ false
-unfolding isPassed isOwn
-passed-end (Next e) id = refl
-passed-end Unsound id = refl
-
-pub passed-inside : (w at id : ℕ) (q : Step) (row : Row) (xs : Bytes) → row ≡ rowAt w xs at → isPassed q row id ≡ true → at + w ≤ length xs
-passed-inside w at id q row xs e t = go (decLe (at + w) (length xs))
-  where
-    go : Dec (at + w ≤ length xs) → at + w ≤ length xs
-    go (yes h) = h
-    go (no h) = absurd (false≢true (sym (passed-end q id) ∙ ap (λ (x : Row). isPassed q x id) (sym (e ∙ row-none w xs at (omega arith))) ∙ t))
+  pub own-inside : (xs : Bytes) → row ≡ rowAt w xs at → isOwn row id ≡ true → at + w ≤ length xs
+  unfolding isOwn
+  own-inside xs e t = go (decLe (at + w) (length xs))
+    where
+      go : Dec (at + w ≤ length xs) → at + w ≤ length xs
+      go (yes h) = h
+      go (no h) = absurd (false≢true (ap (λ (x : Row). isOwn x id) (sym (e ∙ row-none w xs at (omega arith))) ∙ t))
 
 -- what it is lent of areas that can be audited
 pub judged : (k : Kind) (s r c : Bytes) (end m : ℕ) (b : Bool) → Auditable k (areas s r c) → end ≡ counted r → end ≤ length r → m ≡ fill 2 s → Judges k s (take end r) c m b → b ≡ sound k (areas s r c)

@@ -3,7 +3,7 @@
 use Prim.Native.Nat.{ℕ, suc, _+_, _≤_, _<_}
 use mathlib.Core.Path.{_≡_, refl, sym, ap, _∙_, subst}
 use mathlib.Core.Logic.{_⊎_, inl, inr}
-use mathlib.Core.Bool.{Bool, true, false, cond, _&&_, and-false}
+use mathlib.Core.Bool.{Bool, true, false, _&&_, and-false}
 use mathlib.Core.List.{List, [], _∷_}
 use native.Mathlib.Omega.{arith}
 use native.Mathlib.Decide.{decLe}
@@ -27,7 +27,7 @@ use Rattle.loc_rows.specs.declared.Row.{Row}
 use Rattle.loc_rows.specs.declared.Row.the-variants.{End}
 use Rattle.loc_rows.specs.Reader.{fields, rowAt, rowsFrom, isEnd}
 use Rattle.loc_rows.proofs.ReaderLaws.{row-none, row-whole, row-value, rows-more, rows-none}
-use Rattle.loc_audit.specs.Pass.{ownRow, isOwn}
+use Rattle.loc_audit.specs.Pass.{ownRow, isOwn, placeAfter}
 
 -- ---- a list of rows
 
@@ -161,10 +161,10 @@ module _ (k : Kind) (a : Areas) (rs : List Bytes) (xs : Bytes) (n at : ℕ) (ins
         lacks = w .same (suc n) (omega arith) ∙ ap (lookup k (suc n)) more ∙ none-above k (suc n) (suc n) (here ∷ others) (omega arith) rise
 
   abbrev After : Row → Type 0
-  After row = Turn row (cond (isOwn row (suc n)) (at + rowWidth k) at)
+  After row = Turn row (placeAfter (rowWidth k) row (suc n) at)
 
   pub turn : After (rowAt (rowWidth k) xs at)
-  unfolding isOwn fields
+  unfolding placeAfter isOwn fields
   turn = go (decLe (at + rowWidth k) (length xs))
     where
       go : Dec (at + rowWidth k ≤ length xs) → After (rowAt (rowWidth k) xs at)

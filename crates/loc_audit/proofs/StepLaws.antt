@@ -29,7 +29,7 @@ use Rattle.loc_audit.specs.declared.Sum.{Sum}
 use Rattle.loc_audit.specs.declared.Sum.the-variants.{Below, Past}
 use Rattle.loc_audit.specs.declared.Step.{Step}
 use Rattle.loc_audit.specs.declared.Step.the-variants.{Next, Unsound}
-use Rattle.loc_audit.specs.Pass.{ownRow, isOwn, slotSays, endAfter, added, valued, recordStep, checkpointIs, checkpointHolds, tested, endsAfter, auditStep, isPassed, begin, goesOn, isSound}
+use Rattle.loc_audit.specs.Pass.{ownRow, isOwn, slotSays, endAfter, added, valued, recordStep, checkpointIs, checkpointHolds, tested, endsAfter, auditStep, begin, goesOn, isSound}
 
 -- ---- the row at the reader's place
 
@@ -274,10 +274,6 @@ module _ (q : Step) where
     unfolding goesOn
     goes-on-next n m = rw h refl
 
-    pub passed-next : (row : Row) (id : ℕ) (b : Bool) → b ≡ isOwn row id → b ≡ isPassed q row id
-    unfolding isPassed
-    passed-next row id b eb = eb ∙ rw h refl
-
     pub sound-next : (row : Row) (b : Bool) → b ≡ isEnd row → b ≡ isSound q row
     unfolding isSound
     sound-next row b eb = eb ∙ rw h refl
@@ -286,10 +282,6 @@ module _ (q : Step) where
     pub goes-on-not : (n m : ℕ) → false ≡ goesOn q n m
     unfolding goesOn
     goes-on-not n m = rw h refl
-
-    pub passed-not : (row : Row) (id : ℕ) → false ≡ isPassed q row id
-    unfolding isPassed
-    passed-not row id = rw h refl
 
     pub sound-not : (row : Row) → false ≡ isSound q row
     unfolding isSound

@@ -36,6 +36,10 @@ unfoldable pub isOwn : Row → ℕ → Bool
 isOwn (At n s p) id = eqb n id
 isOwn End id = false
 
+-- the reader's place after record id: one row on, if the row at its place is that record's
+unfoldable pub placeAfter : ℕ → Row → ℕ → ℕ → ℕ
+placeAfter w row id at = cond (isOwn row id) (at + w) at
+
 -- a row that is wanted says both values, and a slot that needs none says its own: nothing where a row is not wanted, or lacking
 unfoldable pub slotSays : Kind → Bytes → Lookup → Lookup
 slotSays k s (Found v) = cond (rowWanted k s v) (Found v) Missing
@@ -79,15 +83,6 @@ endsAfter k slots checkpoints id row e = tested k checkpoints id (recordStep k s
 unfoldable pub auditStep : Kind → Bytes → Bytes → ℕ → Row → Step → Step
 auditStep k slots checkpoints id row (Next e) = endsAfter k slots checkpoints id row e
 auditStep k slots checkpoints id row Unsound = Unsound
-
--- the reader goes on after record id: past its own row, while all is sound
-unfoldable pub isPassed : Step → Row → ℕ → Bool
-isPassed (Next e) row id = isOwn row id
-isPassed Unsound row id = false
-
--- its place then
-unfoldable pub placeAfter : ℕ → Step → Row → ℕ → ℕ → ℕ
-placeAfter w step row id at = cond (isPassed step row id) (at + w) at
 
 -- before the first record
 unfoldable pub begin : Step

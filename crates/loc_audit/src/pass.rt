@@ -6,7 +6,7 @@ ghost use Prim.Native.Nat.{_^_, _<_};
 ghost use Rattle.loc_leaf.specs.Kind.{rowWidth};
 ghost use Rattle.loc_leaf.specs.Slot.{slotAt};
 ghost use Rattle.loc_calls.specs.Audit.{byteFits, rowFits, rowWanted};
-ghost use Rattle.loc_audit.specs.Pass.{ownRow, isOwn, isPassed, slotSays, endAfter, added, recordStep, checkpointIs, checkpointHolds, endsAfter, auditStep, begin, goesOn, isSound, Judges};
+ghost use Rattle.loc_audit.specs.Pass.{ownRow, isOwn, slotSays, endAfter, added, recordStep, checkpointIs, checkpointHolds, endsAfter, auditStep, begin, goesOn, isSound, Judges};
 use crate::Ends;
 use crate::Step;
 use crate::Sum;
@@ -209,16 +209,6 @@ fn audit_step(kind: Kind, slots: &[u8], checkpoints: &[u8], id: u64, row: Row, b
     }
 }
 
-// Whether the reader goes on after record id: past its own row, while all is sound.
-fn is_passed(step: Step, row: Row, id: u64) -> bool
-    ensures { λ r. ⌜ r ≡ isPassed step row id ⌝ }
-{
-    match step {
-        Step::Next(_) => is_own(row, id),
-        Step::Unsound => false,
-    }
-}
-
 // Before the first record.
 fn begun() -> Step
     ensures { λ r. ⌜ r ≡ begin ⌝ }
@@ -265,7 +255,7 @@ pub fn pass(
     while goes_on(step, n, count) {
         n += 1;
         step = audit_step(kind, slots, checkpoints, n, row, step);
-        if is_passed(step, row, n) {
+        if is_own(row, n) {
             r = onward(r, width);
             row = here(r, width);
         }

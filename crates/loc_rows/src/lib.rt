@@ -1,10 +1,12 @@
 // One reader over the row area, carrying the next row's place: what opening and audit go through the rows with.
-// An inner crate; its functions ask nothing. The width of a row is a number, so that both kinds are read by one code.
+// An inner crate. The width of a row is a number, so that both kinds are read by one code.
 ghost use mathlib.Core.Path.{_≡_};
-ghost use Rattle.loc_leaf.specs.Rows.{rowList, ascending};
 ghost use Prim.Native.Nat.{_+_, _<_, _≤_, _^_};
+ghost use Rattle.loc_leaf.specs.Rows.{rowList, ascending};
 ghost use Rattle.loc_rows.specs.Reader.{rowAt, rowsFrom, isEnd, isAbove, numberOf};
 use loc_leaf::Kind;
+use loc_leaf::delta_loc::ROW_SPANS;
+use loc_leaf::delta_loc::ROW_STRIDES;
 use loc_leaf::delta_loc::row_width;
 use loc_leaf::file::FILE_HEADER_LEN;
 use loc_leaf::file::logical_len;
@@ -41,8 +43,8 @@ pub fn row_at(rows: &[u8], at: usize, width: usize) -> Row
     let row = &rows[at..end];
     Row::At {
         number: u64_at(row, 0),
-        strides: u32_at(row, 8),
-        spans: u32_at(row, 12),
+        strides: u32_at(row, ROW_STRIDES),
+        spans: u32_at(row, ROW_SPANS),
     }
 }
 

@@ -69,9 +69,9 @@ use Rattle.loc_rows.proofs.onward as onward
 use Rattle.loc_rows.proofs.onward.Symbol as onward-def
 use Rattle.loc_rows.proofs.onward.Symbol.{name as #loc_rows·onward}
 use Rattle.loc_rows.proofs.onward.Met as onward-thm
-use Rattle.loc_audit.specs.Pass.{isPassed, placeAfter, auditStep, begin, goesOn, isSound, Lent, Judges}
+use Rattle.loc_audit.specs.Pass.{isOwn, placeAfter, auditStep, begin, goesOn, isSound, Lent, Judges}
 use Rattle.loc_audit.specs.declared.Step.{Step}
-use Rattle.loc_audit.proofs.PassLaws.{Passing, passing-begins, passing-next, passing-ends, goes-below, place-on, place-same, passed-inside}
+use Rattle.loc_audit.proofs.PassLaws.{Passing, passing-begins, passing-next, passing-ends, goes-below, place-own, place-same, own-inside}
 use Rattle.loc_audit.proofs.Step as Q
 use Rattle.loc_audit.proofs.Step.Laws as Q′
 use Rattle.loc_audit.proofs.pass.begun as begun
@@ -86,10 +86,10 @@ use Rattle.loc_audit.proofs.pass.audit_step as step
 use Rattle.loc_audit.proofs.pass.audit_step.Symbol as step-def
 use Rattle.loc_audit.proofs.pass.audit_step.Symbol.{name as #loc_audit·pass·audit-step}
 use Rattle.loc_audit.proofs.pass.audit_step.Met as step-thm
-use Rattle.loc_audit.proofs.pass.is_passed as passed
-use Rattle.loc_audit.proofs.pass.is_passed.Symbol as passed-def
-use Rattle.loc_audit.proofs.pass.is_passed.Symbol.{name as #loc_audit·pass·is-passed}
-use Rattle.loc_audit.proofs.pass.is_passed.Met as passed-thm
+use Rattle.loc_audit.proofs.pass.is_own as own
+use Rattle.loc_audit.proofs.pass.is_own.Symbol as own-def
+use Rattle.loc_audit.proofs.pass.is_own.Symbol.{name as #loc_audit·pass·is-own}
+use Rattle.loc_audit.proofs.pass.is_own.Met as own-thm
 use Rattle.loc_audit.proofs.pass.is_sound as is-sound
 use Rattle.loc_audit.proofs.pass.is_sound.Symbol as is-sound-def
 use Rattle.loc_audit.proofs.pass.is_sound.Symbol.{name as #loc_audit·pass·is-sound}
@@ -135,7 +135,7 @@ moving = seq (assign (place 14 []) (rvOpd (copy (place 7 [])))) (seq (call #loc_
 abbrev on : Body
 on = seq (assign (place 10 []) (op2 (add unsigned) (copy (place 10 [])) (int w64 1)))
     (seq (call #loc_audit·pass·audit-step (copy (place 1 []) ∷ copy (place 2 []) ∷ copy (place 4 []) ∷ copy (place 10 []) ∷ copy (place 8 []) ∷ copy (place 9 []) ∷ []) (place 9 []))
-    (seq (call #loc_audit·pass·is-passed (copy (place 9 []) ∷ copy (place 8 []) ∷ copy (place 10 []) ∷ []) (place 13 [])) (cond (copy (place 13 [])) moving skipᴹ)))
+    (seq (call #loc_audit·pass·is-own (copy (place 8 []) ∷ copy (place 10 []) ∷ []) (place 13 [])) (cond (copy (place 13 [])) moving skipᴹ)))
 
 abbrev turn : Body
 turn = seq (call #loc_audit·pass·goes-on (copy (place 9 []) ∷ copy (place 10 []) ∷ copy (place 5 []) ∷ []) (place 12 [])) (seq (cond (copy (place 12 [])) skipᴹ (exit 1)) on)
@@ -163,8 +163,8 @@ module _ {M : Type 1} (𝓤 : URA M) (H : Heap 𝓤) (A : Atoms 𝓤) (mem : Mem
   abbrev Stepping : Contract 𝓤
   Stepping = tripleOf 𝓤 H A step.signature (step.spec 𝓤 H A mem run)
 
-  abbrev Passed : Contract 𝓤
-  Passed = tripleOf 𝓤 H A passed.signature (passed.spec 𝓤 H A mem run)
+  abbrev Owning : Contract 𝓤
+  Owning = tripleOf 𝓤 H A own.signature (own.spec 𝓤 H A mem run)
 
   abbrev Sounding : Contract 𝓤
   Sounding = tripleOf 𝓤 H A is-sound.signature (is-sound.spec 𝓤 H A mem run)
@@ -177,7 +177,7 @@ module _ {M : Type 1} (𝓤 : URA M) (H : Heap 𝓤) (A : Atoms 𝓤) (mem : Mem
     begun-known : Triple 𝓤 (C #loc_audit·pass·begun) Begun
     goes-known : Triple 𝓤 (C #loc_audit·pass·goes-on) Goes
     step-known : Triple 𝓤 (C #loc_audit·pass·audit-step) Stepping
-    passed-known : Triple 𝓤 (C #loc_audit·pass·is-passed) Passed
+    own-known : Triple 𝓤 (C #loc_audit·pass·is-own) Owning
     is-sound-known : Triple 𝓤 (C #loc_audit·pass·is-sound) Sounding
 
 module _ {M : Type 1} (𝓤 : URA M) (H : Heap 𝓤) (A : Atoms 𝓤) (W : Given 𝓤 H A) (mem : Memory → SProp 𝓤) (run : Routine → Fun 𝓤) (κ₁ κ₂ κ₃ : Lft) (q₁ q₂ q₃ : Share) (k : Kind) (sl ro ch : RefT (List ℕ)) (m w : ℕ) (isk : Is K.the-row k (EL.vals K.the-type K′.the-laws k)) (okm : m < 2 ^ 64) (okw : w < 2 ^ 64) (width : w ≡ rowWidth k) where
@@ -310,14 +310,14 @@ module _ {M : Type 1} (𝓤 : URA M) (H : Heap 𝓤) (A : Atoms 𝓤) (W : Given
     step-said : (p′ : Step) → ent 𝓤 (ensured 𝓤 H A step.ended (step.clauses 𝓤 H A mem run) (κ₁, (κ₃, tt)) stepArgs tt p′) (fact 𝓤 (p′ ≡ auditStep k (now sl) (now ch) n t p))
     step-said p′ = exE 𝓤 _ (λ ws. snd∗ 𝓤 (sem 𝓤 H A (lasts step.ended (κ₁, (κ₃, tt)) stepArgs ws)) (fact 𝓤 (p′ ≡ auditStep k (now sl) (now ch) n t p)))
 
-    abbrev to-passed : Passed 𝓤 H A mem run .Ghost
-    to-passed = ((tt, tt, tt, (p, (t, (n, tt))), (up ∷ [], (ut ∷ [], (vint w64 n ∷ [], tt)))), tt)
+    abbrev to-own : Owning 𝓤 H A mem run .Ghost
+    to-own = ((tt, tt, tt, (t, (n, tt)), (ut ∷ [], (vint w64 n ∷ [], tt))), tt)
 
-    goes-passed : ent 𝓤 (emp 𝓤) (Passed 𝓤 H A mem run .pre to-passed)
-    goes-passed = qed W [] ∵ nothing ! $ owned ! u64 (Is u64) (uint-makes 𝓤 H A W w64) n _ (refl, okn) $ fjoin ! $ owned ! S.the-row (Is S.the-row) (EL.makes S.the-type S′.the-plain 𝓤 H A) t _ ist $ fjoin ! $ owned ! Q.the-row (Is Q.the-row) (EL.makes Q.the-type Q′.the-plain 𝓤 H A) p _ isp $ fjoin ! $ nothing ! $ join ! $ frame ! $ done !
+    goes-own : ent 𝓤 (emp 𝓤) (Owning 𝓤 H A mem run .pre to-own)
+    goes-own = qed W [] ∵ nothing ! $ owned ! u64 (Is u64) (uint-makes 𝓤 H A W w64) n _ (refl, okn) $ fjoin ! $ owned ! S.the-row (Is S.the-row) (EL.makes S.the-type S′.the-plain 𝓤 H A) t _ ist $ fjoin ! $ nothing ! $ join ! $ frame ! $ done !
 
-    passed-said : (b : Bool) → ent 𝓤 (ensured 𝓤 H A passed.ended (passed.clauses 𝓤 H A mem run) tt (p, (t, (n, tt))) tt b) (fact 𝓤 (b ≡ isPassed p t n))
-    passed-said b = exE 𝓤 _ (λ ws. snd∗ 𝓤 (sem 𝓤 H A (lasts passed.ended tt (p, (t, (n, tt))) ws)) (fact 𝓤 (b ≡ isPassed p t n)))
+    own-said : (b : Bool) → ent 𝓤 (ensured 𝓤 H A own.ended (own.clauses 𝓤 H A mem run) tt (t, (n, tt)) tt b) (fact 𝓤 (b ≡ isOwn t n))
+    own-said b = exE 𝓤 _ (λ ws. snd∗ 𝓤 (sem 𝓤 H A (lasts own.ended tt (t, (n, tt)) ws)) (fact 𝓤 (b ≡ isOwn t n)))
 
     abbrev to-sound : Sounding 𝓤 H A mem run .Ghost
     to-sound = ((tt, tt, tt, (p, (t, tt)), (up ∷ [], (ut ∷ [], tt))), tt)
@@ -362,7 +362,7 @@ module _ {M : Type 1} (𝓤 : URA M) (H : Heap 𝓤) (A : Atoms 𝓤) (W : Given
 
   -- one record more: p′ is its step, and the reader is at its place after it
   next : (t : Turn) → goesOn (t .p) (t .n) m ≡ true → (p′ : Step) (up′ : Val) → Is Q.the-row p′ (up′ ∷ []) → p′ ≡ auditStep k (now sl) (now ch) (t .n + 1) (t .row) (t .p)
-      → (r′ : RowReader) (ur′ : Val) → Is B r′ (ur′ ∷ []) → r′ .rows ≡ ro → r′ .at ≡ placeAfter w p′ (t .row) (t .n + 1) (t .r .at)
+      → (r′ : RowReader) (ur′ : Val) → Is B r′ (ur′ ∷ []) → r′ .rows ≡ ro → r′ .at ≡ placeAfter w (t .row) (t .n + 1) (t .r .at)
       → (t′ : Row) (ut′ : Val) → Is S.the-row t′ (ut′ ∷ []) → t′ ≡ rowAt w (now ro) (r′ .at) → Turn
   next t go p′ up′ isp′ ep r′ ur′ isr′ er ea t′ ut′ ist′ et = record {
     r = r′;
@@ -441,8 +441,8 @@ module _ {M : Type 1} (𝓤 : URA M) (H : Heap 𝓤) (A : Atoms 𝓤) (W : Given
       abbrev Turned : Turn → Out → SProp 𝓤
       Turned t = afterTurn 𝓤 H (Below 𝓤 H A Nearer At t) (afterBlock 𝓤 H (afterSeq 𝓤 H (Wp 𝓤 H C Λ En rest (atReturn 𝓤 H En Post)) (atReturn 𝓤 H En Post)))
 
-      -- the row was the record's own, and all is sound: the reader goes on, and the next row is read
-      moves : (t : Turn) (b b′ : Bool) → goesOn (t .p) (t .n) m ≡ true → (p′ : Step) (up′ : Val) → Is Q.the-row p′ (up′ ∷ []) → p′ ≡ auditStep k (now sl) (now ch) (t .n + 1) (t .row) (t .p) → isPassed p′ (t .row) (t .n + 1) ≡ true
+      -- the row was the record's own: the reader goes on, and the next row is read
+      moves : (t : Turn) (b b′ : Bool) → goesOn (t .p) (t .n) m ≡ true → (p′ : Step) (up′ : Val) → Is Q.the-row p′ (up′ ∷ []) → p′ ≡ auditStep k (now sl) (now ch) (t .n + 1) (t .row) (t .p) → isOwn (t .row) (t .n + 1) ≡ true
           → Sq W (Cells (test₁₂ b) (test₁₃ b′) (t .r) (t .ur) (t .ut) up′ (t .n + 1)) (runs C Λ En moving (anyQ (Turned t)))
       unfolding afterTurn next
       moves t b b′ go p′ up′ isp′ ep mine =
@@ -462,10 +462,10 @@ module _ {M : Type 1} (𝓤 : URA M) (H : Heap 𝓤) (A : Atoms 𝓤) (W : Given
           facts ! S.the-row (Is S.the-row) (shows 𝓤 H A S.the-row) t′ (u′ ∷ []) (λ ist.
           land-last ! (from ! (stop !)) (store ! 20 refl (EL.lawful S.the-type S′.the-laws 𝓤 H A W tt .typed t′ _ ist .0)) $
           forget ! 12 refl $ forget ! 10 refl $ forget ! 8 refl $ forget ! 6 refl $
-          again ! Nearer At t (next t go p′ up′ isp′ ep r′ u isr (er .0 ∙ t .same) (er .1 ∙ place-on w (t .r .at) (t .n + 1) p′ (t .row) mine) t′ u′ ist (et ∙ ap (λ (x : RefT (List ℕ)). rowAt w (now x) (r′ .at)) (er .0 ∙ t .same))) (nearer t go)))))))))
+          again ! Nearer At t (next t go p′ up′ isp′ ep r′ u isr (er .0 ∙ t .same) (er .1 ∙ place-own w (t .r .at) (t .n + 1) (t .row) mine) t′ u′ ist (et ∙ ap (λ (x : RefT (List ℕ)). rowAt w (now x) (r′ .at)) (er .0 ∙ t .same))) (nearer t go)))))))))
         where
           inside : t .r .at + w ≤ length (now ro)
-          inside = passed-inside w (t .r .at) (t .n + 1) p′ (t .row) (now ro) (t .found) mine
+          inside = own-inside w (t .r .at) (t .n + 1) (t .row) (now ro) (t .found) mine
 
       -- a record follows: it is looked at
       goes-on : (t : Turn) (b : Bool) → goesOn (t .p) (t .n) m ≡ true → Sq W (Cells (test₁₂ b) none₁₃ (t .r) (t .ur) (t .ut) (t .up) (t .n)) (runs C Λ En on (anyQ (Turned t)))
@@ -480,16 +480,16 @@ module _ {M : Type 1} (𝓤 : URA M) (H : Heap 𝓤) (A : Atoms 𝓤) (W : Given
           split ! $ move ! (1 ∷ []) $ use1 W (raw (fact 𝓤 (p′ ≡ auditStep k (now sl) (now ch) (t .n + 1) (t .row) (t .p)))) (step-said (t .p) (t .up) (t .isp) (t .row) (t .ut) (t .ist) (t .n + 1) fits p′) $ heard ! (p′ ≡ auditStep k (now sl) (now ch) (t .n + 1) (t .row) (t .p)) (λ ep. split ! $ move ! (1 ∷ []) $
           facts ! Q.the-row (Is Q.the-row) (shows 𝓤 H A Q.the-row) p′ (u ∷ []) (λ isp.
           land ! (from ! (stop !)) (store ! 18 refl (EL.lawful Q.the-type Q′.the-laws 𝓤 H A W tt .typed p′ _ isp .0)) $ move ! (3 ∷ 4 ∷ 5 ∷ 0 ∷ 2 ∷ 1 ∷ []) $
-          use0 W (raw (Passed 𝓤 H A mem run .pre (to-passed p′ u isp (t .row) (t .ut) (t .ist) (t .n + 1) fits))) (goes-passed p′ u isp (t .row) (t .ut) (t .ist) (t .n + 1) fits) $
-          calls-at ! fm (Passed 𝓤 H A mem run) (known .passed-known) (to-passed p′ u isp (t .row) (t .ut) (t .ist) (t .n + 1) fits) (and-then ! (load ! (from ! (stop !)) (look ! 19 refl)) (and-then ! (load ! (from ! (stop !)) (look ! 21 refl)) (and-then ! (load ! (from ! (stop !)) (look ! 17 refl)) (no-more !)))) (λ u′.
-          use1 W (later (some (λ (b′ : Bool). (‵ ftrue ⊛ ‵ (Boolean .own b′ (u′ ∷ []))) ⊛ raw (ensured 𝓤 H A passed.ended (passed.clauses 𝓤 H A mem run) tt (p′, (t .row, (t .n + 1, tt))) tt b′)))) (id⊢ 𝓤 _) $ await ! tt $ pick ! (λ b′.
-          split ! $ move ! (1 ∷ []) $ use1 W (raw (fact 𝓤 (b′ ≡ isPassed p′ (t .row) (t .n + 1)))) (passed-said p′ u isp (t .row) (t .ut) (t .ist) (t .n + 1) fits b′) $ heard ! (b′ ≡ isPassed p′ (t .row) (t .n + 1)) (λ eo. split ! $ drop ! $
+          use0 W (raw (Owning 𝓤 H A mem run .pre (to-own p′ u isp (t .row) (t .ut) (t .ist) (t .n + 1) fits))) (goes-own p′ u isp (t .row) (t .ut) (t .ist) (t .n + 1) fits) $
+          calls-at ! fm (Owning 𝓤 H A mem run) (known .own-known) (to-own p′ u isp (t .row) (t .ut) (t .ist) (t .n + 1) fits) (and-then ! (load ! (from ! (stop !)) (look ! 21 refl)) (and-then ! (load ! (from ! (stop !)) (look ! 17 refl)) (no-more !))) (λ u′.
+          use1 W (later (some (λ (b′ : Bool). (‵ ftrue ⊛ ‵ (Boolean .own b′ (u′ ∷ []))) ⊛ raw (ensured 𝓤 H A own.ended (own.clauses 𝓤 H A mem run) tt (t .row, (t .n + 1, tt)) tt b′)))) (id⊢ 𝓤 _) $ await ! tt $ pick ! (λ b′.
+          split ! $ move ! (1 ∷ []) $ use1 W (raw (fact 𝓤 (b′ ≡ isOwn (t .row) (t .n + 1)))) (own-said p′ u isp (t .row) (t .ut) (t .ist) (t .n + 1) fits b′) $ heard ! (b′ ≡ isOwn (t .row) (t .n + 1)) (λ eo. split ! $ drop ! $
           facts ! Boolean (Is Boolean) (shows 𝓤 H A Boolean) b′ (u′ ∷ []) (λ isb.
           land ! (from ! (stop !)) (init ! 10 refl (bool-lawful 𝓤 H A W .typed b′ (u′ ∷ []) isb .0)) $ rewrite ! 10 (λ (x : Val). ‵ (fat fullShare tyBool l₁₃ 0 x)) (ap only isb) refl $
           branches ! (load ! (from ! (stop !)) (look ! 10 refl))
           (λ yes′. moves t b b′ go p′ u isp ep (sym eo ∙ is-true b′ yes′))
           (λ no′. skips ! $ forget ! 12 refl $ forget ! 10 refl $
-          again ! Nearer At t (next t go p′ u isp ep (t .r) (t .ur) (t .isr) (t .same) (place-same w (t .r .at) (t .n + 1) p′ (t .row) (sym eo ∙ is-false b′ no′)) (t .row) (t .ut) (t .ist) (t .found)) (nearer t go))))))))))
+          again ! Nearer At t (next t go p′ u isp ep (t .r) (t .ur) (t .isr) (t .same) (place-same w (t .r .at) (t .n + 1) (t .row) (sym eo ∙ is-false b′ no′)) (t .row) (t .ut) (t .ist) (t .found)) (nearer t go))))))))))
         where
           fits : t .n + 1 < 2 ^ 64
           fits = omega (arith, goes-below (t .p) (t .n) m go, okm)
@@ -613,6 +613,6 @@ pass-spec 𝓤 H 𝓜 𝓖 𝓡 =
       begun-known = cited 𝓤 H (Begun 𝓤 H (𝓖 .A) (𝓜 .mem) (𝓡 .run)) 𝓜 𝓡 code.env #loc_audit·pass·begun begun-def.routine code.calls-loc-audit·pass·begun (begun-thm.met 𝓤 H 𝓜 𝓖 𝓡);
       goes-known = cited 𝓤 H (Goes 𝓤 H (𝓖 .A) (𝓜 .mem) (𝓡 .run)) 𝓜 𝓡 code.env #loc_audit·pass·goes-on goes-def.routine code.calls-loc-audit·pass·goes-on (goes-thm.met 𝓤 H 𝓜 𝓖 𝓡);
       step-known = cited 𝓤 H (Stepping 𝓤 H (𝓖 .A) (𝓜 .mem) (𝓡 .run)) 𝓜 𝓡 code.env #loc_audit·pass·audit-step step-def.routine code.calls-loc-audit·pass·audit-step (step-thm.met 𝓤 H 𝓜 𝓖 𝓡);
-      passed-known = cited 𝓤 H (Passed 𝓤 H (𝓖 .A) (𝓜 .mem) (𝓡 .run)) 𝓜 𝓡 code.env #loc_audit·pass·is-passed passed-def.routine code.calls-loc-audit·pass·is-passed (passed-thm.met 𝓤 H 𝓜 𝓖 𝓡);
+      own-known = cited 𝓤 H (Owning 𝓤 H (𝓖 .A) (𝓜 .mem) (𝓡 .run)) 𝓜 𝓡 code.env #loc_audit·pass·is-own own-def.routine code.calls-loc-audit·pass·is-own (own-thm.met 𝓤 H 𝓜 𝓖 𝓡);
       is-sound-known = cited 𝓤 H (Sounding 𝓤 H (𝓖 .A) (𝓜 .mem) (𝓡 .run)) 𝓜 𝓡 code.env #loc_audit·pass·is-sound is-sound-def.routine code.calls-loc-audit·pass·is-sound (is-sound-thm.met 𝓤 H 𝓜 𝓖 𝓡);
     }))
