@@ -40,11 +40,6 @@ pub enum Lookup {
     Missing,
 }
 
-// Where a row has its strides and its span count. Its number comes first.
-pub const ROW_STRIDES: usize = 8;
-
-pub const ROW_SPANS: usize = 12;
-
 pub fn row_width(kind: Kind) -> usize
     ensures { λ r. ⌜ (r ≡ rowWidth kind) × (12 ≤ r) × (r ≤ 16) ⌝ }
 {
