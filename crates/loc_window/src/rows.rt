@@ -9,6 +9,8 @@ ghost use Rattle.loc_leaf.specs.Rows.{rowList, rowValue, numberIn, rowsUpToByHa
 ghost use Rattle.loc_window.specs.Window.{Passed, Rising, FoundRow};
 use loc_leaf::Kind;
 use loc_leaf::Value;
+use loc_leaf::delta_loc::ROW_SPANS;
+use loc_leaf::delta_loc::ROW_STRIDES;
 use loc_leaf::delta_loc::row_width;
 use loc_leaf::delta_loc::rows_up_to;
 use loc_leaf::file::FILE_HEADER_LEN;
@@ -56,11 +58,11 @@ pub fn row_value_at(kind: Kind, rows: &[u8], count: usize, row: usize) -> Value
 {
     match kind {
         Kind::Paired => Value {
-            strides: half_at(rows, FILE_HEADER_LEN + 8 + 16 * row),
-            spans: half_at(rows, FILE_HEADER_LEN + 12 + 16 * row),
+            strides: half_at(rows, FILE_HEADER_LEN + ROW_STRIDES + 16 * row),
+            spans: half_at(rows, FILE_HEADER_LEN + ROW_SPANS + 16 * row),
         },
         Kind::Single => Value {
-            strides: half_at(rows, FILE_HEADER_LEN + 8 + 12 * row),
+            strides: half_at(rows, FILE_HEADER_LEN + ROW_STRIDES + 12 * row),
             spans: 0,
         },
     }

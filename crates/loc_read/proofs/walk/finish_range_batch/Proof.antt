@@ -11,7 +11,7 @@ use Rattle.loc_leaf.specs.Kind.{windowOf}
 use Rattle.loc_calls.specs.Areas.{areas}
 use Rattle.loc_window.proofs.SummingLaws.{summing-asks, summing-more, summing-next}
 use Rattle.loc_window.proofs.CheckpointLaws.{end-of-bodies, end-of-spans}
-use Rattle.loc_read.proofs.WindowLaws.{summing-none}
+use Rattle.loc_read.proofs.WindowLaws.{summing-none, arrays-summing}
 use Rattle.loc_read.proofs.WalkLaws.{run-published, ordered-keys, passing-none, run-few, run-room, run-low, run-lacks, run-safe, passing-next, finished-17, finished-0}
 use Rattle.loc_runs.proofs.RunLaws.{key-there}
 use Rattle.loc_read.specs.Walk.{Passing}
@@ -121,13 +121,13 @@ slice-aggregate-put-run-2 :
 slice-aggregate-put-run-2 c = search needs
 
 put-run-requires : tie.Need-put-run-requires Inv-loop μ-loop Inv-windows μ-windows
-put-run-requires c κs = run-safe _ _ _ _ _ _ (c .before .before .before .before .before .before .before .before .before .before .before .before .before .before .before .before .before .before .before .before .before .before .before .pre .0) (ordered-keys _ _ _ (c .before .before .before .before .before .before .before .before .before .before .before .before .before .before .before .before .before .before .before .before .before .before .before .pre .1 .0) (c .before .before .before .before .before .before .before .before .before .before .before .before .before .before .before .before .before .before .before .before .before .before .before .pre .1 .1)) _ _ _ _ _ (c .before .before .before .before .before .before .before .before .before .before .before .before .before .run-at .ensures) _ (ap (λ (x : ℕ). 1024 * x) (c .before .before .before .before .before .before .before .before .before .before .loc-window .ensures ∙ ap windowOf (c .before .before .before .before .before .before .before .before .before .before .before .wanted-by .ensures))) _ _ (c .before .before .before .before .before .before .before .before .copy-slots .ensures) _ _ _ _ (c .before .before .before .before .before .before .loop .inv .1) (omega (arith, c .before .before .before .before .before .loop-test .left)) _ (omega (arith, c .before .before .before .before .before .before .before .before .before .before .before .before .before .before .before .before .before .before .before .before .before .before .before .pre .1 .2, c .before .before .before .before .before .before .before .before .before .before .before .before .before .before .before .before .windows .inv .5 .long))
+put-run-requires c κs = run-safe _ _ _ _ _ _ (c .before .before .before .before .before .before .before .before .before .before .before .before .before .before .before .before .before .before .before .before .before .before .before .pre .0) (ordered-keys _ _ _ (c .before .before .before .before .before .before .before .before .before .before .before .before .before .before .before .before .before .before .before .before .before .before .before .pre .1 .0) (c .before .before .before .before .before .before .before .before .before .before .before .before .before .before .before .before .before .before .before .before .before .before .before .pre .1 .1)) _ _ _ _ _ (c .before .before .before .before .before .before .before .before .before .before .before .before .before .run-at .ensures) _ (ap (λ (x : ℕ). 1024 * x) (c .before .before .before .before .before .before .before .before .before .before .loc-window .ensures ∙ ap windowOf (c .before .before .before .before .before .before .before .before .before .before .before .wanted-by .ensures))) _ _ (c .before .before .before .before .before .before .before .before .copy-slots .ensures) _ _ (arrays-summing _ _ _ _ _ _ _ _ _ _ _ _ (c .before .before .before .before .before .before .loop .inv .1) (omega (arith, c .before .before .before .before .before .loop-test .left))) _ (omega (arith, c .before .before .before .before .before .before .before .before .before .before .before .before .before .before .before .before .before .before .before .before .before .before .before .pre .1 .2, c .before .before .before .before .before .before .before .before .before .before .before .before .before .before .before .before .windows .inv .5 .long))
 
 windows-less : tie.Need-windows-less Inv-loop μ-loop Inv-windows μ-windows
 windows-less c = omega (arith, (c .before .before .before .before .before .before .before .before .before .before .before .before .before .before .before .before .run-at .ensures) .more, (c .before .before .before .before .before .before .before .before .before .before .before .before .before .before .before .before .run-at .ensures) .inside)
 
 windows-again : tie.Need-windows-again Inv-loop μ-loop Inv-windows μ-windows
-windows-again c = (c .before .before .before .before .before .before .before .before .before .loop .inv .0, c .before .before .before .before .before .before .before .before .before .before .before .copy-slots .kept .1 .1 .1 .0 ∙ c .before .before .before .before .before .before .before .before .before .before .before .before .before .before .before .before .before .before .before .windows .inv .1, c .before .before .before .before .before .before .before .before .before .loop .inv .1 .bodyLong, c .before .before .before .before .before .before .before .before .before .loop .inv .1 .spanLong, c .before .before .before .before .before .before .before .before .before .before .before .before .before .before .before .before .run-at .kept .1 .1 .1 .1 .1 .1 .0 ∙ c .before .before .before .before .before .before .before .before .before .before .before .before .before .before .before .before .before .before .before .windows .inv .4, passing-next _ _ _ _ _ _ (c .before .before .before .before .before .before .before .before .before .before .before .before .before .before .before .before .before .before .before .before .before .before .before .before .before .before .pre .0) (ordered-keys _ _ _ (c .before .before .before .before .before .before .before .before .before .before .before .before .before .before .before .before .before .before .before .before .before .before .before .before .before .before .pre .1 .0) (c .before .before .before .before .before .before .before .before .before .before .before .before .before .before .before .before .before .before .before .before .before .before .before .before .before .before .pre .1 .1)) _ _ _ _ _ (c .before .before .before .before .before .before .before .before .before .before .before .before .before .before .before .before .run-at .ensures) _ (ap (λ (x : ℕ). 1024 * x) (c .before .before .before .before .before .before .before .before .before .before .before .before .before .loc-window .ensures ∙ ap windowOf (c .before .before .before .before .before .before .before .before .before .before .before .before .before .before .wanted-by .ensures))) _ _ (c .before .before .before .before .before .before .before .before .before .before .before .copy-slots .ensures) _ _ _ _ (c .before .before .before .before .before .before .before .before .before .loop .inv .1) (omega (arith, c .before .before .before .before .before .before .before .before .loop-test .left)) _ _ (end-of-bodies _ _ _ _ _ (c .before .before .before .before .before .before .before .window-end .ensures _ _) (c .before .before .before .before .before .before .before .before .before .before .before .before .before .loc-window .ensures ∙ ap windowOf (c .before .before .before .before .before .before .before .before .before .before .before .before .before .before .wanted-by .ensures))) (end-of-spans _ _ _ _ _ (c .before .before .before .before .before .before .window-end2 .ensures _ _) (c .before .before .before .before .before .before .before .before .before .before .before .before .before .loc-window .ensures ∙ ap windowOf (c .before .before .before .before .before .before .before .before .before .before .before .before .before .before .wanted-by .ensures))) _ _ _ (c .before .before .before .before .before .before .before .before .before .before .before .before .before .before .before .before .before .before .before .windows .inv .5) (c .before .before .put-run .ensures))
+windows-again c = (c .before .before .before .before .before .before .before .before .before .loop .inv .0, c .before .before .before .before .before .before .before .before .before .before .before .copy-slots .kept .1 .1 .1 .0 ∙ c .before .before .before .before .before .before .before .before .before .before .before .before .before .before .before .before .before .before .before .windows .inv .1, c .before .before .before .before .before .before .before .before .before .loop .inv .1 .bodyLong, c .before .before .before .before .before .before .before .before .before .loop .inv .1 .spanLong, c .before .before .before .before .before .before .before .before .before .before .before .before .before .before .before .before .run-at .kept .1 .1 .1 .1 .1 .1 .0 ∙ c .before .before .before .before .before .before .before .before .before .before .before .before .before .before .before .before .before .before .before .windows .inv .4, passing-next _ _ _ _ _ _ (c .before .before .before .before .before .before .before .before .before .before .before .before .before .before .before .before .before .before .before .before .before .before .before .before .before .before .pre .0) (ordered-keys _ _ _ (c .before .before .before .before .before .before .before .before .before .before .before .before .before .before .before .before .before .before .before .before .before .before .before .before .before .before .pre .1 .0) (c .before .before .before .before .before .before .before .before .before .before .before .before .before .before .before .before .before .before .before .before .before .before .before .before .before .before .pre .1 .1)) _ _ _ _ _ (c .before .before .before .before .before .before .before .before .before .before .before .before .before .before .before .before .run-at .ensures) _ (ap (λ (x : ℕ). 1024 * x) (c .before .before .before .before .before .before .before .before .before .before .before .before .before .loc-window .ensures ∙ ap windowOf (c .before .before .before .before .before .before .before .before .before .before .before .before .before .before .wanted-by .ensures))) _ _ (c .before .before .before .before .before .before .before .before .before .before .before .copy-slots .ensures) _ _ (arrays-summing _ _ _ _ _ _ _ _ _ _ _ _ (c .before .before .before .before .before .before .before .before .before .loop .inv .1) (omega (arith, c .before .before .before .before .before .before .before .before .loop-test .left))) _ _ (end-of-bodies _ _ _ _ _ (c .before .before .before .before .before .before .before .window-end .ensures _ _) (c .before .before .before .before .before .before .before .before .before .before .before .before .before .loc-window .ensures ∙ ap windowOf (c .before .before .before .before .before .before .before .before .before .before .before .before .before .before .wanted-by .ensures))) (end-of-spans _ _ _ _ _ (c .before .before .before .before .before .before .window-end2 .ensures _ _) (c .before .before .before .before .before .before .before .before .before .before .before .before .before .loc-window .ensures ∙ ap windowOf (c .before .before .before .before .before .before .before .before .before .before .before .before .before .before .wanted-by .ensures))) _ _ _ (c .before .before .before .before .before .before .before .before .before .before .before .before .before .before .before .before .before .before .before .windows .inv .5) (c .before .before .put-run .ensures))
 
 same-length : tie.Need-same-length Inv-loop μ-loop Inv-windows μ-windows
 same-length c = c .before .windows .inv .5 .long
