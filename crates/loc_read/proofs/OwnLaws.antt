@@ -73,7 +73,7 @@ module _ (k : Kind) (a : Areas) (nr : ℕ) (ids out : List ℕ) (t : Tested k a 
   own-asks bytes body span el eb e₁ e₂ = (
     el,
     subst (λ (i : ℕ). Summing k i f m bytes (a .rows) nr mark 1 0 (sumsOf 0 0 (nr + 1) 0) body span) (sym e₁)
-    (summing-none k f m bytes (a .rows) nr mark 1 body span (own-fits .few) low (t .readable .rise) eb e₁ e₂),
+        (summing-none k f m bytes (a .rows) nr mark 1 body span (own-fits .few) low (t .readable .rise) eb e₁ e₂),
   )
 
   module _ (bytes old : Bytes) (copied : Copied (a .slots) (16 + 2 * f) (2 * m) old bytes) (body span : List ℕ) (r : Step) (v : WindowSummed k f bytes (a .rows) mark 1 m body span r) where

@@ -11,14 +11,7 @@ use loc_leaf::Kind;
 use loc_leaf::file::FILE_HEADER_LEN;
 
 // The m records whose slots are these bytes.
-fn part_total(
-    kind: Kind,
-    bytes: &[u8],
-    m: usize,
-    rows: &[u8],
-    row_count: usize,
-    base: u64,
-) -> Total
+fn part_total(kind: Kind, bytes: &[u8], m: usize, rows: &[u8], row_count: usize, base: u64) -> Total
     requires { ⌜ RowsReady kind base (now bytes) (now rows) «row_count» m ⌝ }
     ensures { λ r. ⌜ Totalled kind (windowAreas base (now (bytes .entry)) (now (rows .entry))) base m r ⌝ }
 {

@@ -32,7 +32,11 @@ sub-j : tie.Need-sub-j Inv-loop μ-loop
 sub-j c = omega (arith, c .before .before .before .before .before .before .before .pre .1 (c .before .before .loop .p) (c .before .loop-test .taken))
 
 put-words-requires : tie.Need-put-words-requires Inv-loop μ-loop
-put-words-requires c κs = (run-summed _ _ _ _ _ _ _ _ (c .before .before .before .before .before .before .before .before .pre .2) (c .before .before .before .loop .p) (omega arith) (c .before .before .loop-test .taken) _ (own-wanted (now (c .before .before .before .before .before .before .before .before .args .wanted)) _ _ _ (c .before .before .before .before .before .before .before .before .pre .0) (c .before .before .loop-test .taken) refl), omega (arith, place-below (wordWidth (c .before .before .before .before .before .before .before .before .args .kind)) (c .before .before .before .loop .p) (length (now (c .before .before .before .before .before .before .before .before .args .wanted))) (c .before .before .loop-test .taken), c .before .before .before .before .before .before .before .before .pre .2 .room, c .before .before .before .loop .inv .1))
+put-words-requires c κs =
+    let c₁ = c .before .before in
+    let c₂ = c₁ .before in
+    let c₃ = c₂ .before .before .before .before .before in
+    (run-summed _ _ _ _ _ _ _ _ (c₃ .pre .2) (c₂ .loop .p) (omega arith) (c₁ .loop-test .taken) _ (own-wanted (now (c₃ .args .wanted)) _ _ _ (c₃ .pre .0) (c₁ .loop-test .taken) refl), omega (arith, place-below (wordWidth (c₃ .args .kind)) (c₂ .loop .p) (length (now (c₃ .args .wanted))) (c₁ .loop-test .taken), c₃ .pre .2 .room, c₂ .loop .inv .1))
 
 add-p : tie.Need-add-p Inv-loop μ-loop
 add-p c = omega arith
@@ -41,7 +45,12 @@ loop-less : tie.Need-loop-less Inv-loop μ-loop
 loop-less c = omega arith
 
 loop-again : tie.Need-loop-again Inv-loop μ-loop
-loop-again c = (omega arith, c .before .before .put-words .ensures .long ∙ c .before .before .before .before .before .before .loop .inv .1, run-more _ _ _ _ _ _ _ _ _ _ _ _ _ _ (omega arith) (c .before .before .before .before .before .before .loop .inv .2) (own-place _ _ (c .before .before .before .before .before .before .before .before .before .before .before .pre .0) (c .before .before .before .before .before .loop-test .taken)) refl (c .before .before .put-words .ensures), put-past _ _ _ (now (c .before .before .before .before .before .before .before .before .before .before .before .args .out)) _ _ _ (c .before .before .before .before .before .loop-test .taken) (c .before .before .before .before .before .before .loop .inv .3) (c .before .before .put-words .ensures))
+loop-again c =
+    let c₁ = c .before .before in
+    let c₂ = c₁ .before .before .before in
+    let c₃ = c₂ .before in
+    let c₄ = c₃ .before .before .before .before .before in
+    (omega arith, c₁ .put-words .ensures .long ∙ c₃ .loop .inv .1, run-more _ _ _ _ _ _ _ _ _ _ _ _ _ _ (omega arith) (c₃ .loop .inv .2) (own-place _ _ (c₄ .pre .0) (c₂ .loop-test .taken)) refl (c₁ .put-words .ensures), put-past _ _ _ (now (c₄ .args .out)) _ _ _ (c₂ .loop-test .taken) (c₃ .loop .inv .3) (c₁ .put-words .ensures))
 
 same-length : tie.Need-same-length Inv-loop μ-loop
 same-length c = omega arith

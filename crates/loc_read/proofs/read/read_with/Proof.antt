@@ -70,8 +70,13 @@ same-length-7 c = search needs
 
 returns-2 : tie.Need-returns-2
 returns-2 c =
-    read-done _ _ _ _ _ (c .before .before .before .before .before .before .before .before .before .before .before .before .before .before .before .before .before .before .before .before .before .before .before .before .before .before .before .before .pre .0 .0) _ _ (c .before .before .before .before .before .before .before .before .before .before .finish-range-batch .ensures) _ _ _ _ _ (search needs) (c .before .before .before .before .before .word-width .ensures .0)
-    (words-fit _ _ _ _ _ (c .before .before .before .before .before .word-width .ensures .0) (c .before .before .before .before .before .before .before .before .before .before .before .before .before .before .before .before .before .before .before .before .before .before .before .before .before .before .before .before .pre .1 .2) (c .before .before .before .before .before .before .before .before .before .before .finish-range-batch .kept .1 .1 .1 .1 .1 .1 .1 .1 .0)) (c .before .before .before .before .before .before .before .before .before .before .before .before .before .before .before .before .before .before .before .before .before .before .before .before .before .before .before .before .pre .0 .1) (c .before .before .before .before .before .before .before .before .before .before .before .before .before .before .before .before .before .plan-range-batch .ensures .0) (c .before .before .before .copy-words .ensures) (c .accepted .ensures)
+    let c₁ = c .before .before .before in
+    let c₂ = c₁ .before .before in
+    let c₃ = c₂ .before .before .before .before .before in
+    let c₄ = c₃ .before .before .before .before .before .before .before in
+    let c₅ = c₄ .before .before .before .before .before .before .before .before .before .before .before in
+    read-done _ _ _ _ _ (c₅ .pre .0 .0) _ _ (c₃ .finish-range-batch .ensures) _ _ _ _ _ (search needs) (c₂ .word-width .ensures .0)
+    (words-fit _ _ _ _ _ (c₂ .word-width .ensures .0) (c₅ .pre .1 .2) (c₃ .finish-range-batch .kept .1 .1 .1 .1 .1 .1 .1 .1 .0)) (c₅ .pre .0 .1) (c₄ .plan-range-batch .ensures .0) (c₁ .copy-words .ensures) (c .accepted .ensures)
 
 pub read-with-spec : {M : Type 1} → statement M
 read-with-spec =

@@ -52,10 +52,16 @@ mul-base : tie.Need-mul-base Inv-loop μ-loop Inv-windows μ-windows
 mul-base c = omega (arith, run-low _ _ _ _ _ _ (c .before .before .before .before .before .before .before .before .before .before .before .before .before .pre .0) (ordered-keys _ _ _ (c .before .before .before .before .before .before .before .before .before .before .before .before .before .pre .1 .0) (c .before .before .before .before .before .before .before .before .before .before .before .before .before .pre .1 .1)) _ _ _ _ _ (c .before .before .before .run-at .ensures) _ (ap (λ (x : ℕ). 1024 * x) (c .loc-window .ensures ∙ ap windowOf (c .before .wanted-by .ensures))))
 
 mul-copy-slots : tie.Need-mul-copy-slots Inv-loop μ-loop Inv-windows μ-windows
-mul-copy-slots c = omega (arith, run-published _ _ _ _ _ _ (c .before .before .before .before .before .before .before .before .before .before .before .before .before .pre .0) (ordered-keys _ _ _ (c .before .before .before .before .before .before .before .before .before .before .before .before .before .pre .1 .0) (c .before .before .before .before .before .before .before .before .before .before .before .before .before .pre .1 .1)) _ _ _ _ _ (c .before .before .before .run-at .ensures) _ (ap (λ (x : ℕ). 1024 * x) (c .loc-window .ensures ∙ ap windowOf (c .before .wanted-by .ensures))), c .before .before .before .before .before .before .before .before .before .before .before .before .before .pre .0 .low)
+mul-copy-slots c =
+    let c₁ = c .before .before .before in
+    let c₂ = c₁ .before .before .before .before .before .before .before .before .before .before in
+    omega (arith, run-published _ _ _ _ _ _ (c₂ .pre .0) (ordered-keys _ _ _ (c₂ .pre .1 .0) (c₂ .pre .1 .1)) _ _ _ _ _ (c₁ .run-at .ensures) _ (ap (λ (x : ℕ). 1024 * x) (c .loc-window .ensures ∙ ap windowOf (c .before .wanted-by .ensures))), c₂ .pre .0 .low)
 
 add-copy-slots : tie.Need-add-copy-slots Inv-loop μ-loop Inv-windows μ-windows
-add-copy-slots c = omega (arith, run-published _ _ _ _ _ _ (c .before .before .before .before .before .before .before .before .before .before .before .before .before .pre .0) (ordered-keys _ _ _ (c .before .before .before .before .before .before .before .before .before .before .before .before .before .pre .1 .0) (c .before .before .before .before .before .before .before .before .before .before .before .before .before .pre .1 .1)) _ _ _ _ _ (c .before .before .before .run-at .ensures) _ (ap (λ (x : ℕ). 1024 * x) (c .loc-window .ensures ∙ ap windowOf (c .before .wanted-by .ensures))), c .before .before .before .before .before .before .before .before .before .before .before .before .before .pre .0 .low)
+add-copy-slots c =
+    let c₁ = c .before .before .before in
+    let c₂ = c₁ .before .before .before .before .before .before .before .before .before .before in
+    omega (arith, run-published _ _ _ _ _ _ (c₂ .pre .0) (ordered-keys _ _ _ (c₂ .pre .1 .0) (c₂ .pre .1 .1)) _ _ _ _ _ (c₁ .run-at .ensures) _ (ap (λ (x : ℕ). 1024 * x) (c .loc-window .ensures ∙ ap windowOf (c .before .wanted-by .ensures))), c₂ .pre .0 .low)
 
 mul-copy-slots-2 : tie.Need-mul-copy-slots-2 Inv-loop μ-loop Inv-windows μ-windows
 mul-copy-slots-2 c = omega (arith, run-few _ _ _ _ _ _ (c .before .before .before .before .before .before .before .before .before .before .before .before .before .pre .0) (ordered-keys _ _ _ (c .before .before .before .before .before .before .before .before .before .before .before .before .before .pre .1 .0) (c .before .before .before .before .before .before .before .before .before .before .before .before .before .pre .1 .1)) _ _ _ _ _ (c .before .before .before .run-at .ensures))
@@ -65,16 +71,30 @@ slice-aggregate-copy-slots :
 slice-aggregate-copy-slots c = search needs
 
 copy-slots-requires : tie.Need-copy-slots-requires Inv-loop μ-loop Inv-windows μ-windows
-copy-slots-requires c κs = (run-room _ _ _ _ _ _ (c .before .before .before .before .before .before .before .before .before .before .before .before .before .before .pre .0) (ordered-keys _ _ _ (c .before .before .before .before .before .before .before .before .before .before .before .before .before .before .pre .1 .0) (c .before .before .before .before .before .before .before .before .before .before .before .before .before .before .pre .1 .1)) _ _ _ _ _ (c .before .before .before .before .run-at .ensures) _ (ap (λ (x : ℕ). 1024 * x) (c .before .loc-window .ensures ∙ ap windowOf (c .before .before .wanted-by .ensures))), omega (arith, run-few _ _ _ _ _ _ (c .before .before .before .before .before .before .before .before .before .before .before .before .before .before .pre .0) (ordered-keys _ _ _ (c .before .before .before .before .before .before .before .before .before .before .before .before .before .before .pre .1 .0) (c .before .before .before .before .before .before .before .before .before .before .before .before .before .before .pre .1 .1)) _ _ _ _ _ (c .before .before .before .before .run-at .ensures), c .before .before .before .before .before .before .before .windows .inv .1))
+copy-slots-requires c κs =
+    let c₁ = c .before .before in
+    let c₂ = c₁ .before .before in
+    let c₃ = c₂ .before .before .before in
+    let c₄ = c₃ .before .before .before .before .before .before .before in
+    (run-room _ _ _ _ _ _ (c₄ .pre .0) (ordered-keys _ _ _ (c₄ .pre .1 .0) (c₄ .pre .1 .1)) _ _ _ _ _ (c₂ .run-at .ensures) _ (ap (λ (x : ℕ). 1024 * x) (c .before .loc-window .ensures ∙ ap windowOf (c₁ .wanted-by .ensures))), omega (arith, run-few _ _ _ _ _ _ (c₄ .pre .0) (ordered-keys _ _ _ (c₄ .pre .1 .0) (c₄ .pre .1 .1)) _ _ _ _ _ (c₂ .run-at .ensures), c₃ .windows .inv .1))
 
 add-row : tie.Need-add-row Inv-loop μ-loop Inv-windows μ-windows
 add-row c = omega (arith, few-rows _ _ _ (c .before .before .before .before .before .before .before .before .before .before .before .before .before .before .before .before .pre .0 .rise))
 
 loop-holds : tie.Need-loop-holds Inv-loop μ-loop Inv-windows μ-windows
-loop-holds c = (c .before .before .before .before .before .before .before .before .before .windows .inv .0, summing-none _ _ _ _ _ _ _ _ _ _ (run-few _ _ _ _ _ _ (c .before .before .before .before .before .before .before .before .before .before .before .before .before .before .before .before .pre .0) (ordered-keys _ _ _ (c .before .before .before .before .before .before .before .before .before .before .before .before .before .before .before .before .pre .1 .0) (c .before .before .before .before .before .before .before .before .before .before .before .before .before .before .before .before .pre .1 .1)) _ _ _ _ _ (c .before .before .before .before .before .before .run-at .ensures)) (run-low _ _ _ _ _ _ (c .before .before .before .before .before .before .before .before .before .before .before .before .before .before .before .before .pre .0) (ordered-keys _ _ _ (c .before .before .before .before .before .before .before .before .before .before .before .before .before .before .before .before .pre .1 .0) (c .before .before .before .before .before .before .before .before .before .before .before .before .before .before .before .before .pre .1 .1)) _ _ _ _ _ (c .before .before .before .before .before .before .run-at .ensures) _ (ap (λ (x : ℕ). 1024 * x) (c .before .before .before .loc-window .ensures ∙ ap windowOf (c .before .before .before .before .wanted-by .ensures)))) (c .before .before .before .before .before .before .before .before .before .before .before .before .before .before .before .before .pre .0 .rise) (c .before .copy-slots .kept .1 .1 .1 .0 ∙ c .before .before .before .before .before .before .before .before .before .windows .inv .1) (c .before .before .before .before .before .before .before .before .before .windows .inv .2) (c .before .before .before .before .before .before .before .before .before .windows .inv .3))
+loop-holds c =
+    let c₁ = c .before .before .before in
+    let c₂ = c₁ .before in
+    let c₃ = c₂ .before .before in
+    let c₄ = c₃ .before .before .before in
+    let c₅ = c₄ .before .before .before .before .before .before .before in
+    (c₄ .windows .inv .0, summing-none _ _ _ _ _ _ _ _ _ _ (run-few _ _ _ _ _ _ (c₅ .pre .0) (ordered-keys _ _ _ (c₅ .pre .1 .0) (c₅ .pre .1 .1)) _ _ _ _ _ (c₃ .run-at .ensures)) (run-low _ _ _ _ _ _ (c₅ .pre .0) (ordered-keys _ _ _ (c₅ .pre .1 .0) (c₅ .pre .1 .1)) _ _ _ _ _ (c₃ .run-at .ensures) _ (ap (λ (x : ℕ). 1024 * x) (c₁ .loc-window .ensures ∙ ap windowOf (c₂ .wanted-by .ensures)))) (c₅ .pre .0 .rise) (c .before .copy-slots .kept .1 .1 .1 .0 ∙ c₄ .windows .inv .1) (c₄ .windows .inv .2) (c₄ .windows .inv .3))
 
 mul-loop : tie.Need-mul-loop Inv-loop μ-loop Inv-windows μ-windows
-mul-loop c = omega (arith, c .loop .inv .1 .bound, run-few _ _ _ _ _ _ (c .before .before .before .before .before .before .before .before .before .before .before .before .before .before .before .before .before .pre .0) (ordered-keys _ _ _ (c .before .before .before .before .before .before .before .before .before .before .before .before .before .before .before .before .before .pre .1 .0) (c .before .before .before .before .before .before .before .before .before .before .before .before .before .before .before .before .before .pre .1 .1)) _ _ _ _ _ (c .before .before .before .before .before .before .before .run-at .ensures))
+mul-loop c =
+    let c₁ = c .before .before .before .before .before .before .before in
+    let c₂ = c₁ .before .before .before .before .before .before .before .before .before .before in
+    omega (arith, c .loop .inv .1 .bound, run-few _ _ _ _ _ _ (c₂ .pre .0) (ordered-keys _ _ _ (c₂ .pre .1 .0) (c₂ .pre .1 .1)) _ _ _ _ _ (c₁ .run-at .ensures))
 
 slice-aggregate-slot-step :
     tie.Need-slice-aggregate-slot-step Inv-loop μ-loop Inv-windows μ-windows
@@ -108,10 +128,20 @@ enum-told : tie.Need-enum-told Inv-loop μ-loop Inv-windows μ-windows
 enum-told c = search needs
 
 window-end-requires : tie.Need-window-end-requires Inv-loop μ-loop Inv-windows μ-windows
-window-end-requires c κs = (omega arith, omega (arith, run-low _ _ _ _ _ _ (c .before .before .before .before .before .before .before .before .before .before .before .before .before .before .before .before .before .before .pre .0) (ordered-keys _ _ _ (c .before .before .before .before .before .before .before .before .before .before .before .before .before .before .before .before .before .before .pre .1 .0) (c .before .before .before .before .before .before .before .before .before .before .before .before .before .before .before .before .before .before .pre .1 .1)) _ _ _ _ _ (c .before .before .before .before .before .before .before .before .run-at .ensures) _ (ap (λ (x : ℕ). 1024 * x) (c .before .before .before .before .before .loc-window .ensures ∙ ap windowOf (c .before .before .before .before .before .before .wanted-by .ensures)))))
+window-end-requires c κs =
+    let c₁ = c .before .before .before .before .before in
+    let c₂ = c₁ .before in
+    let c₃ = c₂ .before .before in
+    let c₄ = c₃ .before .before .before .before .before .before .before .before .before .before in
+    (omega arith, omega (arith, run-low _ _ _ _ _ _ (c₄ .pre .0) (ordered-keys _ _ _ (c₄ .pre .1 .0) (c₄ .pre .1 .1)) _ _ _ _ _ (c₃ .run-at .ensures) _ (ap (λ (x : ℕ). 1024 * x) (c₁ .loc-window .ensures ∙ ap windowOf (c₂ .wanted-by .ensures)))))
 
 window-end-requires-2 : tie.Need-window-end-requires-2 Inv-loop μ-loop Inv-windows μ-windows
-window-end-requires-2 c κs = (omega arith, omega (arith, run-low _ _ _ _ _ _ (c .before .before .before .before .before .before .before .before .before .before .before .before .before .before .before .before .before .before .before .pre .0) (ordered-keys _ _ _ (c .before .before .before .before .before .before .before .before .before .before .before .before .before .before .before .before .before .before .before .pre .1 .0) (c .before .before .before .before .before .before .before .before .before .before .before .before .before .before .before .before .before .before .before .pre .1 .1)) _ _ _ _ _ (c .before .before .before .before .before .before .before .before .before .run-at .ensures) _ (ap (λ (x : ℕ). 1024 * x) (c .before .before .before .before .before .before .loc-window .ensures ∙ ap windowOf (c .before .before .before .before .before .before .before .wanted-by .ensures)))))
+window-end-requires-2 c κs =
+    let c₁ = c .before .before .before .before .before .before in
+    let c₂ = c₁ .before in
+    let c₃ = c₂ .before .before in
+    let c₄ = c₃ .before .before .before .before .before .before .before .before .before .before in
+    (omega arith, omega (arith, run-low _ _ _ _ _ _ (c₄ .pre .0) (ordered-keys _ _ _ (c₄ .pre .1 .0) (c₄ .pre .1 .1)) _ _ _ _ _ (c₃ .run-at .ensures) _ (ap (λ (x : ℕ). 1024 * x) (c₁ .loc-window .ensures ∙ ap windowOf (c₂ .wanted-by .ensures)))))
 
 slice-aggregate-put-run : tie.Need-slice-aggregate-put-run Inv-loop μ-loop Inv-windows μ-windows
 slice-aggregate-put-run c = search needs
@@ -121,13 +151,34 @@ slice-aggregate-put-run-2 :
 slice-aggregate-put-run-2 c = search needs
 
 put-run-requires : tie.Need-put-run-requires Inv-loop μ-loop Inv-windows μ-windows
-put-run-requires c κs = run-safe _ _ _ _ _ _ (c .before .before .before .before .before .before .before .before .before .before .before .before .before .before .before .before .before .before .before .before .before .before .before .pre .0) (ordered-keys _ _ _ (c .before .before .before .before .before .before .before .before .before .before .before .before .before .before .before .before .before .before .before .before .before .before .before .pre .1 .0) (c .before .before .before .before .before .before .before .before .before .before .before .before .before .before .before .before .before .before .before .before .before .before .before .pre .1 .1)) _ _ _ _ _ (c .before .before .before .before .before .before .before .before .before .before .before .before .before .run-at .ensures) _ (ap (λ (x : ℕ). 1024 * x) (c .before .before .before .before .before .before .before .before .before .before .loc-window .ensures ∙ ap windowOf (c .before .before .before .before .before .before .before .before .before .before .before .wanted-by .ensures))) _ _ (c .before .before .before .before .before .before .before .before .copy-slots .ensures) _ _ (arrays-summing _ _ _ _ _ _ _ _ _ _ _ _ (c .before .before .before .before .before .before .loop .inv .1) (omega (arith, c .before .before .before .before .before .loop-test .left))) _ (omega (arith, c .before .before .before .before .before .before .before .before .before .before .before .before .before .before .before .before .before .before .before .before .before .before .before .pre .1 .2, c .before .before .before .before .before .before .before .before .before .before .before .before .before .before .before .before .windows .inv .5 .long))
+put-run-requires c κs =
+    let c₁ = c .before .before .before .before .before in
+    let c₂ = c₁ .before in
+    let c₃ = c₂ .before .before in
+    let c₄ = c₃ .before .before in
+    let c₅ = c₄ .before in
+    let c₆ = c₅ .before .before in
+    let c₇ = c₆ .before .before .before in
+    let c₈ = c₇ .before .before .before .before .before .before .before in
+    run-safe _ _ _ _ _ _ (c₈ .pre .0) (ordered-keys _ _ _ (c₈ .pre .1 .0) (c₈ .pre .1 .1)) _ _ _ _ _ (c₆ .run-at .ensures) _ (ap (λ (x : ℕ). 1024 * x) (c₄ .loc-window .ensures ∙ ap windowOf (c₅ .wanted-by .ensures))) _ _ (c₃ .copy-slots .ensures) _ _ (arrays-summing _ _ _ _ _ _ _ _ _ _ _ _ (c₂ .loop .inv .1) (omega (arith, c₁ .loop-test .left))) _ (omega (arith, c₈ .pre .1 .2, c₇ .windows .inv .5 .long))
 
 windows-less : tie.Need-windows-less Inv-loop μ-loop Inv-windows μ-windows
 windows-less c = omega (arith, (c .before .before .before .before .before .before .before .before .before .before .before .before .before .before .before .before .run-at .ensures) .more, (c .before .before .before .before .before .before .before .before .before .before .before .before .before .before .before .before .run-at .ensures) .inside)
 
 windows-again : tie.Need-windows-again Inv-loop μ-loop Inv-windows μ-windows
-windows-again c = (c .before .before .before .before .before .before .before .before .before .loop .inv .0, c .before .before .before .before .before .before .before .before .before .before .before .copy-slots .kept .1 .1 .1 .0 ∙ c .before .before .before .before .before .before .before .before .before .before .before .before .before .before .before .before .before .before .before .windows .inv .1, c .before .before .before .before .before .before .before .before .before .loop .inv .1 .bodyLong, c .before .before .before .before .before .before .before .before .before .loop .inv .1 .spanLong, c .before .before .before .before .before .before .before .before .before .before .before .before .before .before .before .before .run-at .kept .1 .1 .1 .1 .1 .1 .0 ∙ c .before .before .before .before .before .before .before .before .before .before .before .before .before .before .before .before .before .before .before .windows .inv .4, passing-next _ _ _ _ _ _ (c .before .before .before .before .before .before .before .before .before .before .before .before .before .before .before .before .before .before .before .before .before .before .before .before .before .before .pre .0) (ordered-keys _ _ _ (c .before .before .before .before .before .before .before .before .before .before .before .before .before .before .before .before .before .before .before .before .before .before .before .before .before .before .pre .1 .0) (c .before .before .before .before .before .before .before .before .before .before .before .before .before .before .before .before .before .before .before .before .before .before .before .before .before .before .pre .1 .1)) _ _ _ _ _ (c .before .before .before .before .before .before .before .before .before .before .before .before .before .before .before .before .run-at .ensures) _ (ap (λ (x : ℕ). 1024 * x) (c .before .before .before .before .before .before .before .before .before .before .before .before .before .loc-window .ensures ∙ ap windowOf (c .before .before .before .before .before .before .before .before .before .before .before .before .before .before .wanted-by .ensures))) _ _ (c .before .before .before .before .before .before .before .before .before .before .before .copy-slots .ensures) _ _ (arrays-summing _ _ _ _ _ _ _ _ _ _ _ _ (c .before .before .before .before .before .before .before .before .before .loop .inv .1) (omega (arith, c .before .before .before .before .before .before .before .before .loop-test .left))) _ _ (end-of-bodies _ _ _ _ _ (c .before .before .before .before .before .before .before .window-end .ensures _ _) (c .before .before .before .before .before .before .before .before .before .before .before .before .before .loc-window .ensures ∙ ap windowOf (c .before .before .before .before .before .before .before .before .before .before .before .before .before .before .wanted-by .ensures))) (end-of-spans _ _ _ _ _ (c .before .before .before .before .before .before .window-end2 .ensures _ _) (c .before .before .before .before .before .before .before .before .before .before .before .before .before .loc-window .ensures ∙ ap windowOf (c .before .before .before .before .before .before .before .before .before .before .before .before .before .before .wanted-by .ensures))) _ _ _ (c .before .before .before .before .before .before .before .before .before .before .before .before .before .before .before .before .before .before .before .windows .inv .5) (c .before .before .put-run .ensures))
+windows-again c =
+    let c₁ = c .before .before in
+    let c₂ = c₁ .before .before .before .before in
+    let c₃ = c₂ .before in
+    let c₄ = c₃ .before in
+    let c₅ = c₄ .before in
+    let c₆ = c₅ .before .before in
+    let c₇ = c₆ .before .before in
+    let c₈ = c₇ .before in
+    let c₉ = c₈ .before .before in
+    let c₁₀ = c₉ .before .before .before in
+    let c₁₁ = c₁₀ .before .before .before .before .before .before .before in
+    (c₅ .loop .inv .0, c₆ .copy-slots .kept .1 .1 .1 .0 ∙ c₁₀ .windows .inv .1, c₅ .loop .inv .1 .bodyLong, c₅ .loop .inv .1 .spanLong, c₉ .run-at .kept .1 .1 .1 .1 .1 .1 .0 ∙ c₁₀ .windows .inv .4, passing-next _ _ _ _ _ _ (c₁₁ .pre .0) (ordered-keys _ _ _ (c₁₁ .pre .1 .0) (c₁₁ .pre .1 .1)) _ _ _ _ _ (c₉ .run-at .ensures) _ (ap (λ (x : ℕ). 1024 * x) (c₇ .loc-window .ensures ∙ ap windowOf (c₈ .wanted-by .ensures))) _ _ (c₆ .copy-slots .ensures) _ _ (arrays-summing _ _ _ _ _ _ _ _ _ _ _ _ (c₅ .loop .inv .1) (omega (arith, c₄ .loop-test .left))) _ _ (end-of-bodies _ _ _ _ _ (c₃ .window-end .ensures _ _) (c₇ .loc-window .ensures ∙ ap windowOf (c₈ .wanted-by .ensures))) (end-of-spans _ _ _ _ _ (c₂ .window-end2 .ensures _ _) (c₇ .loc-window .ensures ∙ ap windowOf (c₈ .wanted-by .ensures))) _ _ _ (c₁₀ .windows .inv .5) (c₁ .put-run .ensures))
 
 same-length : tie.Need-same-length Inv-loop μ-loop Inv-windows μ-windows
 same-length c = c .before .windows .inv .5 .long
@@ -139,7 +190,14 @@ same-length-2 : tie.Need-same-length-2 Inv-loop μ-loop Inv-windows μ-windows
 same-length-2 c = c .before .before .before .before .before .before .before .before .before .before .before .before .before .before .before .before .before .before .before .before .windows .inv .5 .long
 
 returns-2 : tie.Need-returns-2 Inv-loop μ-loop Inv-windows μ-windows
-returns-2 c = finished-17 _ _ _ _ (run-lacks _ _ _ _ _ _ (c .before .before .before .before .before .before .before .before .before .before .before .before .before .before .before .before .before .before .before .before .before .before .before .before .before .before .before .pre .0) (ordered-keys _ _ _ (c .before .before .before .before .before .before .before .before .before .before .before .before .before .before .before .before .before .before .before .before .before .before .before .before .before .before .before .pre .1 .0) (c .before .before .before .before .before .before .before .before .before .before .before .before .before .before .before .before .before .before .before .before .before .before .before .before .before .before .before .pre .1 .1)) _ _ _ _ _ (c .before .before .before .before .before .before .before .before .before .before .before .before .before .before .before .before .before .run-at .ensures) _ (ap (λ (x : ℕ). 1024 * x) (c .before .before .before .before .before .before .before .before .before .before .before .before .before .before .loc-window .ensures ∙ ap windowOf (c .before .before .before .before .before .before .before .before .before .before .before .before .before .before .before .wanted-by .ensures))) _ _ (c .before .before .before .before .before .before .before .before .before .before .before .before .copy-slots .ensures) (slot-lack _ _ _ _ _ _ _ _ _ _ _ (c .before .before .before .before .slot-step .ensures) (c .enum-told .given .1)))
+returns-2 c =
+    let c₁ = c .before .before .before .before in
+    let c₂ = c₁ .before .before .before .before .before .before .before .before in
+    let c₃ = c₂ .before .before in
+    let c₄ = c₃ .before in
+    let c₅ = c₄ .before .before in
+    let c₆ = c₅ .before .before .before .before .before .before .before .before .before .before in
+    finished-17 _ _ _ _ (run-lacks _ _ _ _ _ _ (c₆ .pre .0) (ordered-keys _ _ _ (c₆ .pre .1 .0) (c₆ .pre .1 .1)) _ _ _ _ _ (c₅ .run-at .ensures) _ (ap (λ (x : ℕ). 1024 * x) (c₃ .loc-window .ensures ∙ ap windowOf (c₄ .wanted-by .ensures))) _ _ (c₂ .copy-slots .ensures) (slot-lack _ _ _ _ _ _ _ _ _ _ _ (c₁ .slot-step .ensures) (c .enum-told .given .1)))
 
 pub finish-range-batch-spec : {M : Type 1} → statement M
 finish-range-batch-spec =

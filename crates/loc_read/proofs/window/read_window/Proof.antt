@@ -118,10 +118,15 @@ same-length c = search needs
 
 returns-2 : tie.Need-returns-2
 returns-2 c =
-    let t = c .before .before .before .before .before .before .before .before .before .before .before .before .before in
+    let c₁ = c .before .before .before in
+    let c₂ = c₁ .before .before .before .before in
+    let c₃ = c₂ .before in
+    let c₄ = c₃ .before in
+    let c₅ = c₄ .before .before .before .before in
+    let t = c₅ in
     let w = t .before .before .before .before .before .before .before in
     let b = w .before .before .before .before .before .before .before .before in
-    own-read _ _ _ _ _ (b .pre .0) _ _ (b .pre .1 .1) _ (w .loc-window .ensures) _ _ (t .before .before .before .before .before .copy-slots .ensures) _ _ _ (t .window-sums .ensures) _ (c .before .before .before .before .before .before .before .before .before .enum-told .given .1) (t .window-sums .kept .1 .1 .1 .1 .1 .1 .1 .1 .1 .0 ∙ length-replicate {A = ℕ} 1025 0) (t .window-sums .kept .1 .1 .1 .1 .1 .1 .1 .1 .1 .1 .0 ∙ length-replicate {A = ℕ} 1025 0) _ _ _ (c .before .before .before .before .before .before .before .before .window-end .ensures _ _) (c .before .before .before .before .before .before .before .window-end2 .ensures _ _) (c .before .before .before .put-window .ensures) _ (c .accepted .ensures)
+    own-read _ _ _ _ _ (b .pre .0) _ _ (b .pre .1 .1) _ (w .loc-window .ensures) _ _ (t .before .before .before .before .before .copy-slots .ensures) _ _ _ (t .window-sums .ensures) _ (c₄ .enum-told .given .1) (t .window-sums .kept .1 .1 .1 .1 .1 .1 .1 .1 .1 .0 ∙ length-replicate {A = ℕ} 1025 0) (t .window-sums .kept .1 .1 .1 .1 .1 .1 .1 .1 .1 .1 .0 ∙ length-replicate {A = ℕ} 1025 0) _ _ _ (c₃ .window-end .ensures _ _) (c₂ .window-end2 .ensures _ _) (c₁ .put-window .ensures) _ (c .accepted .ensures)
 
 pub read-window-spec : {M : Type 1} → statement M
 read-window-spec =

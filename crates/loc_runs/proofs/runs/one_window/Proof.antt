@@ -43,7 +43,12 @@ slice-write-mark : tie.Need-slice-write-mark Inv-loop μ-loop
 slice-write-mark c = omega (arith, c .loc-within .ensures .1, c .before .before .before .before .before .before .before .before .pre .1)
 
 loop-holds : tie.Need-loop-holds Inv-loop μ-loop
-loop-holds c = (length-set (now (c .before .before .before .before .before .before .before .before .args .mark)) _ _ ∙ c .before .before .before .before .before .before .before .before .pre .1, omega arith, omega (arith, c .before .before .before .before .before .if1 .left), one-first _ _ _ (c .before .before .before .before .before .before .before .before .pre .0) (now (c .before .before .before .before .before .before .before .before .args .mark)) _ (c .before .before .before .before .before .before .before .before .pre .1) _ (omega (arith, c .before .before .before .before .before .if1 .left)) refl (ap (λ (j : ℕ). set (now (c .before .before .before .before .before .before .before .before .args .mark)) (j / 8) 1) (c .loc-within .ensures .0)), within-next _ (now (c .before .before .before .before .before .before .before .before .args .wanted)) 0 _ refl (sym (c .before .before .before .in-range .ensures) ∙ c .before .before .if2 .taken) (λ q h. absurd (not-suc-le-zero h)), sym (c .before .loc-window .ensures), within-some _ _ (sym (c .before .before .before .in-range .ensures) ∙ c .before .before .if2 .taken), within-counted _ _ (sym (c .before .before .before .in-range .ensures) ∙ c .before .before .if2 .taken))
+loop-holds c =
+    let c₁ = c .before .before in
+    let c₂ = c₁ .before in
+    let c₃ = c₂ .before .before in
+    let c₄ = c₃ .before .before .before in
+    (length-set (now (c₄ .args .mark)) _ _ ∙ c₄ .pre .1, omega arith, omega (arith, c₃ .if1 .left), one-first _ _ _ (c₄ .pre .0) (now (c₄ .args .mark)) _ (c₄ .pre .1) _ (omega (arith, c₃ .if1 .left)) refl (ap (λ (j : ℕ). set (now (c₄ .args .mark)) (j / 8) 1) (c .loc-within .ensures .0)), within-next _ (now (c₄ .args .wanted)) 0 _ refl (sym (c₂ .in-range .ensures) ∙ c₁ .if2 .taken) (λ q h. absurd (not-suc-le-zero h)), sym (c .before .loc-window .ensures), within-some _ _ (sym (c₂ .in-range .ensures) ∙ c₁ .if2 .taken), within-counted _ _ (sym (c₂ .in-range .ensures) ∙ c₁ .if2 .taken))
 
 mul-next : tie.Need-mul-next Inv-loop μ-loop
 mul-next c = search needs
@@ -74,8 +79,14 @@ loop-less c = search needs
 
 loop-again : tie.Need-loop-again Inv-loop μ-loop
 loop-again c =
-    let i = c .before .before .before .in-window .ensures (c .before .before .if3 .taken) in
-    (length-set (c .before .before .before .before .before .before .loop .mark) _ _ ∙ c .before .before .before .before .before .before .loop .inv .0, omega arith, omega (arith, c .before .before .before .before .before .loop-test .taken), one-next _ _ _ (c .before .before .before .before .before .before .before .before .before .before .before .before .before .before .before .pre .0) (c .before .before .before .before .before .before .loop .mark) _ (c .before .before .before .before .before .before .loop .inv .0) _ _ _ _ _ (c .before .before .before .before .before .before .loop .inv .3) (c .before .before .before .before .before .loop-test .taken) refl (c .before .before .before .before .before .before .before .before .loc-window .ensures) (c .before .before .before .before .before .before .loop .inv .5) (i .1) (c .larger .ensures) (ap (λ (j : ℕ). set (c .before .before .before .before .before .before .loop .mark) (j / 8) 1) (c .before .loc-within2 .ensures .0)), within-next _ (now (c .before .before .before .before .before .before .before .before .before .before .before .before .before .before .before .args .wanted)) _ _ refl (i .0) (c .before .before .before .before .before .before .loop .inv .4), larger-window _ _ _ _ (c .larger .ensures) (c .before .before .before .before .before .before .loop .inv .5) (i .1), omega (arith, c .larger .ensures, c .before .before .before .before .before .before .loop .inv .6), omega (arith, c .larger .ensures, c .before .before .before .before .before .before .loop .inv .7, within-counted _ _ (i .0)))
+    let c₁ = c .before .before in
+    let c₂ = c₁ .before in
+    let c₃ = c₂ .before .before in
+    let c₄ = c₃ .before in
+    let c₅ = c₄ .before .before in
+    let c₆ = c₅ .before .before .before .before .before .before .before in
+    let i = c₂ .in-window .ensures (c₁ .if3 .taken) in
+    (length-set (c₄ .loop .mark) _ _ ∙ c₄ .loop .inv .0, omega arith, omega (arith, c₃ .loop-test .taken), one-next _ _ _ (c₆ .pre .0) (c₄ .loop .mark) _ (c₄ .loop .inv .0) _ _ _ _ _ (c₄ .loop .inv .3) (c₃ .loop-test .taken) refl (c₅ .loc-window .ensures) (c₄ .loop .inv .5) (i .1) (c .larger .ensures) (ap (λ (j : ℕ). set (c₄ .loop .mark) (j / 8) 1) (c .before .loc-within2 .ensures .0)), within-next _ (now (c₆ .args .wanted)) _ _ refl (i .0) (c₄ .loop .inv .4), larger-window _ _ _ _ (c .larger .ensures) (c₄ .loop .inv .5) (i .1), omega (arith, c .larger .ensures, c₄ .loop .inv .6), omega (arith, c .larger .ensures, c₄ .loop .inv .7, within-counted _ _ (i .0)))
 
 same-length : tie.Need-same-length Inv-loop μ-loop
 same-length c = c .before .before .before .before .loop .inv .0 ∙ sym (c .before .before .before .before .before .before .before .before .before .before .before .before .before .pre .1)

@@ -24,7 +24,10 @@ loc-window-requires : tie.Need-loc-window-requires Inv-loop μ-loop
 loc-window-requires c κs = search needs
 
 mark-block-requires : tie.Need-mark-block-requires Inv-loop μ-loop
-mark-block-requires c κs = (key-some (c .before .before .before .before .before .before .args .count) (now (c .before .before .before .before .before .before .args .wanted)) (now (c .before .before .before .before .before .before .args .keys)) (c .before .before .before .before .before .before .pre .1) (c .before .before .before .before .before .before .args .from) (c .before .before .before .before .before .before .pre .0) _ (c .before .before .wanted-by .ensures), key-counted (c .before .before .before .before .before .before .args .count) (now (c .before .before .before .before .before .before .args .wanted)) (now (c .before .before .before .before .before .before .args .keys)) (c .before .before .before .before .before .before .pre .1) (c .before .before .before .before .before .before .args .from) (c .before .before .before .before .before .before .pre .0) _ (c .before .before .wanted-by .ensures), c .before .before .before .before .before .before .pre .2)
+mark-block-requires c κs =
+    let c₁ = c .before .before in
+    let c₂ = c₁ .before .before .before .before in
+    (key-some (c₂ .args .count) (now (c₂ .args .wanted)) (now (c₂ .args .keys)) (c₂ .pre .1) (c₂ .args .from) (c₂ .pre .0) _ (c₁ .wanted-by .ensures), key-counted (c₂ .args .count) (now (c₂ .args .wanted)) (now (c₂ .args .keys)) (c₂ .pre .1) (c₂ .args .from) (c₂ .pre .0) _ (c₁ .wanted-by .ensures), c₂ .pre .2)
 
 add-end : tie.Need-add-end Inv-loop μ-loop
 add-end c = search needs
@@ -45,7 +48,12 @@ returns : tie.Need-returns Inv-loop μ-loop
 returns c = search needs
 
 mark-block-requires-2 : tie.Need-mark-block-requires-2 Inv-loop μ-loop
-mark-block-requires-2 c κs = (key-some (c .before .before .before .before .before .before .before .before .before .before .before .before .before .before .before .args .count) (now (c .before .before .before .before .before .before .before .before .before .before .before .before .before .before .before .args .wanted)) (now (c .before .before .before .before .before .before .before .before .before .before .before .before .before .before .before .args .keys)) (c .before .before .before .before .before .before .before .before .before .before .before .before .before .before .before .pre .1) (c .before .before .before .before .before .loop .end) (c .before .before .before .before .loop-test .taken) _ (c .before .before .before .wanted-by2 .ensures), key-counted (c .before .before .before .before .before .before .before .before .before .before .before .before .before .before .before .args .count) (now (c .before .before .before .before .before .before .before .before .before .before .before .before .before .before .before .args .wanted)) (now (c .before .before .before .before .before .before .before .before .before .before .before .before .before .before .before .args .keys)) (c .before .before .before .before .before .before .before .before .before .before .before .before .before .before .before .pre .1) (c .before .before .before .before .before .loop .end) (c .before .before .before .before .loop-test .taken) _ (c .before .before .before .wanted-by2 .ensures), c .before .before .before .before .before .loop .inv .0)
+mark-block-requires-2 c κs =
+    let c₁ = c .before .before .before in
+    let c₂ = c₁ .before in
+    let c₃ = c₂ .before in
+    let c₄ = c₃ .before .before .before .before .before .before .before .before .before .before in
+    (key-some (c₄ .args .count) (now (c₄ .args .wanted)) (now (c₄ .args .keys)) (c₄ .pre .1) (c₃ .loop .end) (c₂ .loop-test .taken) _ (c₁ .wanted-by2 .ensures), key-counted (c₄ .args .count) (now (c₄ .args .wanted)) (now (c₄ .args .keys)) (c₄ .pre .1) (c₃ .loop .end) (c₂ .loop-test .taken) _ (c₁ .wanted-by2 .ensures), c₃ .loop .inv .0)
 
 add-end-2 : tie.Need-add-end-2 Inv-loop μ-loop
 add-end-2 c = search needs
@@ -54,7 +62,15 @@ loop-less : tie.Need-loop-less Inv-loop μ-loop
 loop-less c = omega arith
 
 loop-again : tie.Need-loop-again Inv-loop μ-loop
-loop-again c = (search needs, run-next (c .before .before .before .before .before .before .before .before .before .before .before .before .before .before .before .before .before .before .args .kind) (c .before .before .before .before .before .before .before .before .before .before .before .before .before .before .before .before .before .before .args .count) (now (c .before .before .before .before .before .before .before .before .before .before .before .before .before .before .before .before .before .before .args .wanted)) (now (c .before .before .before .before .before .before .before .before .before .before .before .before .before .before .before .before .before .before .args .keys)) (c .before .before .before .before .before .before .before .before .before .before .before .before .before .before .before .before .before .before .args .from) (c .before .before .before .before .before .before .before .before .before .before .before .before .before .before .before .before .before .before .args .stamp) (c .before .before .before .before .before .before .before .before .loop .mark) _ (c .before .before .before .before .before .before .before .before .loop .inv .0) (c .before .before .before .before .before .before .wanted-by2 .result) (c .before .before .before .before .before .before .before .before .before .before .before .before .before .loc-window .result) (c .before .before .before .before .before .before .before .before .loop .m) (c .before .before .mark-block2 .result) (c .before .before .before .before .before .before .before .before .loop .end) (c .before .before .before .before .before .before .before .before .loop .inv .1) (c .before .before .before .before .before .before .before .loop-test .taken) (c .before .before .before .before .before .before .wanted-by2 .ensures) (c .before .before .before .before .before .before .before .before .before .before .before .before .before .loc-window .ensures ∙ ap windowOf (c .before .before .before .before .before .before .before .before .before .before .before .before .before .before .wanted-by .ensures)) (search needs) (c .before .before .mark-block2 .ensures .0) (c .before .before .mark-block2 .ensures .1))
+loop-again c =
+    let c₁ = c .before .before in
+    let c₂ = c₁ .before .before .before .before in
+    let c₃ = c₂ .before in
+    let c₄ = c₃ .before in
+    let c₅ = c₄ .before .before .before .before .before in
+    let c₆ = c₅ .before in
+    let c₇ = c₆ .before .before .before .before in
+    (search needs, run-next (c₇ .args .kind) (c₇ .args .count) (now (c₇ .args .wanted)) (now (c₇ .args .keys)) (c₇ .args .from) (c₇ .args .stamp) (c₄ .loop .mark) _ (c₄ .loop .inv .0) (c₂ .wanted-by2 .result) (c₅ .loc-window .result) (c₄ .loop .m) (c₁ .mark-block2 .result) (c₄ .loop .end) (c₄ .loop .inv .1) (c₃ .loop-test .taken) (c₂ .wanted-by2 .ensures) (c₅ .loc-window .ensures ∙ ap windowOf (c₆ .wanted-by .ensures)) (search needs) (c₁ .mark-block2 .ensures .0) (c₁ .mark-block2 .ensures .1))
 
 same-length-2 : tie.Need-same-length-2 Inv-loop μ-loop
 same-length-2 c = search needs

@@ -25,7 +25,11 @@ loop-less : tie.Need-loop-less Inv-loop μ-loop
 loop-less c = c .before .before .before .before .half .ensures [] .less
 
 loop-again : tie.Need-loop-again Inv-loop μ-loop
-loop-again c = (λ x. (c .before .before .before .before .half .ensures x .holding, inside-inside _ _ _ _ (c .before .before .before .before .before .before .before .before .before .loop .inv .0 x .1) (c .before .before .before .before .half .ensures x .inside)), record { marks = c .before .before .before .before .before .before .before .before .before .before .before .before .before .before .before .pre .1 .marks; bodyLong = c .before .before .before .before .half .kept .1 .1 .1 .1 .1 .1 .0 ∙ c .before .before .before .before .before .before .before .before .before .loop .inv .1 .bodyLong; spanLong = c .before .before .before .before .half .kept .1 .1 .1 .1 .1 .1 .1 .0 ∙ c .before .before .before .before .before .before .before .before .before .loop .inv .1 .spanLong })
+loop-again c =
+    let c₁ = c .before .before .before .before in
+    let c₂ = c₁ .before .before .before .before .before in
+    let c₃ = c₂ .before .before .before .before .before .before in
+    (λ x. (c₁ .half .ensures x .holding, inside-inside _ _ _ _ (c₂ .loop .inv .0 x .1) (c₁ .half .ensures x .inside)), record { marks = c₃ .pre .1 .marks; bodyLong = c₁ .half .kept .1 .1 .1 .1 .1 .1 .0 ∙ c₂ .loop .inv .1 .bodyLong; spanLong = c₁ .half .kept .1 .1 .1 .1 .1 .1 .1 .0 ∙ c₂ .loop .inv .1 .spanLong })
 
 record-in-requires : tie.Need-record-in-requires Inv-loop μ-loop
 record-in-requires c κs = (λ x. c .before .before .before .before .loop .inv .0 x .0, c .before .before .before .before .loop .inv .1)

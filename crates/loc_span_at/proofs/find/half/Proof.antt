@@ -46,7 +46,12 @@ same-length-4 : tie.Need-same-length-4
 same-length-4 c = search needs
 
 returns-2 : tie.Need-returns-2
-returns-2 c = half-rest _ _ _ _ _ (c .before .before .before .before .before .before .before .before .before .before .before .before .before .before .before .before .before .before .before .before .before .pre .0) (c .before .before .before .before .before .before .before .before .before .before .before .before .before .before .before .before .before .before .before .before .before .pre .1) _ _ (c .before .before .before .before .before .before .before .before .before .before .before .before .totals .ensures) _ (c .before .before .before .before .before .before .step .given .1) (c .before .before .if1 .left)
+returns-2 c =
+    let c₁ = c .before .before in
+    let c₂ = c₁ .before .before .before .before in
+    let c₃ = c₂ .before .before .before .before .before .before in
+    let c₄ = c₃ .before .before .before .before .before .before .before .before .before in
+    half-rest _ _ _ _ _ (c₄ .pre .0) (c₄ .pre .1) _ _ (c₃ .totals .ensures) _ (c₂ .step .given .1) (c₁ .if1 .left)
 
 same-length-5 : tie.Need-same-length-5
 same-length-5 c = search needs

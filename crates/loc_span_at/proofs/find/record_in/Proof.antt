@@ -19,13 +19,24 @@ mul-passed : tie.Need-mul-passed
 mul-passed c = omega (arith, c .before .before .before .before .before .before .before .before .before .before .before .before .before .before .before .pre .0 [] .ready .few, record-inside _ _ _ _ _ (c .before .before .before .before .before .before .before .before .before .before .before .before .before .before .before .pre .0) _ _ (c .before .before .before .before .before .before .before .totals .ensures) _ (c .first-above .ensures))
 
 slice-read-passed : tie.Need-slice-read-passed
-slice-read-passed c = omega (arith, c .before .before .before .before .before .before .before .before .before .before .before .before .before .before .before .before .pre .0 [] .ready .few, record-inside _ _ _ _ _ (c .before .before .before .before .before .before .before .before .before .before .before .before .before .before .before .before .pre .0) _ _ (c .before .before .before .before .before .before .before .before .totals .ensures) _ (c .before .first-above .ensures), c .before .before .before .before .before .before .before .before .totals .kept .1 .1 .1 .1 .1 .1 .1 .1 .1 .0, c .before .before .before .before .before .before .before .before .before .before .before .before .before .before .before .before .pre .1 .spanLong)
+slice-read-passed c =
+    let c₁ = c .before .before .before .before .before .before .before .before in
+    let c₂ = c₁ .before .before .before .before .before .before .before .before in
+    omega (arith, c₂ .pre .0 [] .ready .few, record-inside _ _ _ _ _ (c₂ .pre .0) _ _ (c₁ .totals .ensures) _ (c .before .first-above .ensures), c₁ .totals .kept .1 .1 .1 .1 .1 .1 .1 .1 .1 .0, c₂ .pre .1 .spanLong)
 
 add-t22 : tie.Need-add-t22
-add-t22 c = omega (arith, c .before .before .before .before .before .before .before .before .before .before .before .before .before .before .before .before .before .pre .0 [] .ready .low, c .before .before .before .before .before .before .before .before .before .before .before .before .before .before .before .before .before .pre .0 [] .ready .few, record-inside _ _ _ _ _ (c .before .before .before .before .before .before .before .before .before .before .before .before .before .before .before .before .before .pre .0) _ _ (c .before .before .before .before .before .before .before .before .before .totals .ensures) _ (c .before .before .first-above .ensures))
+add-t22 c =
+    let c₁ = c .before .before in
+    let c₂ = c₁ .before .before .before .before .before .before .before in
+    let c₃ = c₂ .before .before .before .before .before .before .before .before in
+    omega (arith, c₃ .pre .0 [] .ready .low, c₃ .pre .0 [] .ready .few, record-inside _ _ _ _ _ (c₃ .pre .0) _ _ (c₂ .totals .ensures) _ (c₁ .first-above .ensures))
 
 add-t23 : tie.Need-add-t23
-add-t23 c = omega (arith, c .before .before .before .before .before .before .before .before .before .before .before .before .before .before .before .before .before .pre .0 [] .ready .low, c .before .before .before .before .before .before .before .before .before .before .before .before .before .before .before .before .before .pre .0 [] .ready .few, record-inside _ _ _ _ _ (c .before .before .before .before .before .before .before .before .before .before .before .before .before .before .before .before .before .pre .0) _ _ (c .before .before .before .before .before .before .before .before .before .totals .ensures) _ (c .before .before .first-above .ensures))
+add-t23 c =
+    let c₁ = c .before .before in
+    let c₂ = c₁ .before .before .before .before .before .before .before in
+    let c₃ = c₂ .before .before .before .before .before .before .before .before in
+    omega (arith, c₃ .pre .0 [] .ready .low, c₃ .pre .0 [] .ready .few, record-inside _ _ _ _ _ (c₃ .pre .0) _ _ (c₂ .totals .ensures) _ (c₁ .first-above .ensures))
 
 sub-t24 : tie.Need-sub-t24
 sub-t24 c = omega (arith, record-low _ _ _ _ _ (c .before .before .before .before .before .before .before .before .before .before .before .before .before .before .before .before .before .pre .0) _ _ (c .before .before .before .before .before .before .before .before .before .totals .ensures) _ (c .before .before .first-above .ensures))

@@ -33,10 +33,21 @@ same-length-2 : tie.Need-same-length-2
 same-length-2 c = search needs
 
 returns-2 : tie.Need-returns-2
-returns-2 c = found-next _ _ _ _ (c .before .before .before .before .before .before .before .before .before .before .before .before .before .before .before .before .before .before .pre .1) _ (c .before .before .before .before .before .before .before .before .before .before .if1 .left) _ (held-there _ _ _ _ _ _ _ _ _ (c .before .before .before .before .before .before .before .before .before .before .before .before .before .before .before .before .before .before .pre .0 .0) (c .before .before .before .before .before .before .before .before .before .window-end .ensures _ _ (omega arith)) (search needs) (search needs) (hold-start _ _ _ _ (sym (c .before .before .before .before .before .before .before .before .spans-hold .ensures) ∙ c .before .before .before .before .before .before .before .if2 .taken)) _ (c .before .before .before .before .find .ensures _))
+returns-2 c =
+    let c₁ = c .before .before .before .before in
+    let c₂ = c₁ .before .before .before in
+    let c₃ = c₂ .before in
+    let c₄ = c₃ .before in
+    let c₅ = c₄ .before in
+    let c₆ = c₅ .before .before .before .before .before .before .before .before in
+    found-next _ _ _ _ (c₆ .pre .1) _ (c₅ .if1 .left) _ (held-there _ _ _ _ _ _ _ _ _ (c₆ .pre .0 .0) (c₄ .window-end .ensures _ _ (omega arith)) (search needs) (search needs) (hold-start _ _ _ _ (sym (c₃ .spans-hold .ensures) ∙ c₂ .if2 .taken)) _ (c₁ .find .ensures _))
 
 returns-3 : tie.Need-returns-3
-returns-3 c = found-next _ _ _ _ (c .before .before .before .before .before .before .before .before .before .before .before .pre .1) _ (c .before .before .before .if1 .left) _ (found-21 _ _ _ _ (c .before .before .before .before .before .before .before .before .before .before .before .pre .1) (c .before .before .before .if1 .left) ∙ none-there _ _ _ _ _ _ _ _ _ (c .before .before .before .before .before .before .before .before .before .before .before .pre .0 .0) (c .before .before .window-end .ensures _ _ (omega arith)) (search needs) (search needs) (found-none _ _ _ _ (c .before .before .before .before .before .before .before .before .before .before .before .pre .1) (c .before .before .before .if1 .left)) (sym (c .before .spans-hold .ensures) ∙ c .if2 .left))
+returns-3 c =
+    let c₁ = c .before .before in
+    let c₂ = c₁ .before in
+    let c₃ = c₂ .before .before .before .before .before .before .before .before in
+    found-next _ _ _ _ (c₃ .pre .1) _ (c₂ .if1 .left) _ (found-21 _ _ _ _ (c₃ .pre .1) (c₂ .if1 .left) ∙ none-there _ _ _ _ _ _ _ _ _ (c₃ .pre .0 .0) (c₁ .window-end .ensures _ _ (omega arith)) (search needs) (search needs) (found-none _ _ _ _ (c₃ .pre .1) (c₂ .if1 .left)) (sym (c .before .spans-hold .ensures) ∙ c .if2 .left))
 
 pub first-crossing-spec : {M : Type 1} → statement M
 first-crossing-spec =

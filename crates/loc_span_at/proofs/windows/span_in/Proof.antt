@@ -38,10 +38,24 @@ enum-known-step : tie.Need-enum-known-step Inv-loop μ-loop
 enum-known-step c = search needs
 
 first-crossing-requires : tie.Need-first-crossing-requires Inv-loop μ-loop
-first-crossing-requires c κs = ((finding-quarter _ _ _ _ _ _ (c .before .before .before .before .before .before .before .before .before .before .before .before .before .before .before .before .before .before .before .before .before .before .pre .1) _ _ _ _ (c .before .before .before .before .before .before .before .before .before .before .before .before .before .before .loop .inv .0) (c .before .before .before .before .before .before .before .before .before .before .before .before .before .loop-test .taken) _ (c .before .before .before .before .before .before .before .before .before .before .before .before .quarter-rest .ensures) _ _ (c .before .before .before .before .before .before .before .before .before .totals .ensures) _ (c .before .before .before .step .given .1), record { marks = c .before .before .before .before .before .before .before .before .before .before .before .before .before .before .before .before .before .before .before .before .before .before .pre .2 .marks; bodyLong = c .before .before .before .before .before .before .before .before .before .totals .kept .1 .1 .1 .1 .1 .1 .1 .1 .0 ∙ c .before .before .before .before .before .before .before .before .before .before .before .before .before .before .loop .inv .1 .bodyLong; spanLong = c .before .before .before .before .before .before .before .before .before .totals .kept .1 .1 .1 .1 .1 .1 .1 .1 .1 .0 ∙ c .before .before .before .before .before .before .before .before .before .before .before .before .before .before .loop .inv .1 .spanLong }), finding-found _ _ _ _ _ _ (c .before .before .before .before .before .before .before .before .before .before .before .before .before .before .before .before .before .before .before .before .before .before .pre .1) _ _ _ _ (c .before .before .before .before .before .before .before .before .before .before .before .before .before .before .loop .inv .0) (c .before .before .before .before .before .before .before .before .before .before .before .before .before .loop-test .taken) _ (c .before .before .before .before .before .before .before .before .before .before .before .before .quarter-rest .ensures))
+first-crossing-requires c κs =
+    let c₁ = c .before .before .before in
+    let c₂ = c₁ .before .before .before .before .before .before in
+    let c₃ = c₂ .before .before .before in
+    let c₄ = c₃ .before in
+    let c₅ = c₄ .before in
+    let c₆ = c₅ .before .before .before .before .before .before .before .before in
+    ((finding-quarter _ _ _ _ _ _ (c₆ .pre .1) _ _ _ _ (c₅ .loop .inv .0) (c₄ .loop-test .taken) _ (c₃ .quarter-rest .ensures) _ _ (c₂ .totals .ensures) _ (c₁ .step .given .1), record { marks = c₆ .pre .2 .marks; bodyLong = c₂ .totals .kept .1 .1 .1 .1 .1 .1 .1 .1 .0 ∙ c₅ .loop .inv .1 .bodyLong; spanLong = c₂ .totals .kept .1 .1 .1 .1 .1 .1 .1 .1 .1 .0 ∙ c₅ .loop .inv .1 .spanLong }), finding-found _ _ _ _ _ _ (c₆ .pre .1) _ _ _ _ (c₅ .loop .inv .0) (c₄ .loop-test .taken) _ (c₃ .quarter-rest .ensures))
 
 next-before-requires : tie.Need-next-before-requires Inv-loop μ-loop
-next-before-requires c κs = finding-low _ _ _ _ _ _ (c .before .before .before .before .before .before .before .before .before .before .before .before .before .before .before .before .before .before .before .before .before .before .before .before .before .before .before .pre .1) _ _ _ _ (c .before .before .before .before .before .before .before .before .before .before .before .before .before .before .before .before .before .before .before .loop .inv .0) (c .before .before .before .before .before .before .before .before .before .before .before .before .before .before .before .before .before .before .loop-test .taken) _ (c .before .before .before .before .before .before .before .before .before .before .before .before .before .before .before .before .before .quarter-rest .ensures) _ _ (c .before .before .before .before .before .before .before .before .before .before .before .before .before .before .totals .ensures) _ (c .before .before .before .before .before .before .before .before .step .given .1)
+next-before-requires c κs =
+    let c₁ = c .before .before .before .before .before .before .before .before in
+    let c₂ = c₁ .before .before .before .before .before .before in
+    let c₃ = c₂ .before .before .before in
+    let c₄ = c₃ .before in
+    let c₅ = c₄ .before in
+    let c₆ = c₅ .before .before .before .before .before .before .before .before in
+    finding-low _ _ _ _ _ _ (c₆ .pre .1) _ _ _ _ (c₅ .loop .inv .0) (c₄ .loop-test .taken) _ (c₃ .quarter-rest .ensures) _ _ (c₂ .totals .ensures) _ (c₁ .step .given .1)
 
 add-q : tie.Need-add-q Inv-loop μ-loop
 add-q c = omega (arith, c .before .before .before .before .before .before .before .before .before .before .before .before .before .before .before .before .before .before .before .loop-test .taken, c .before .before .before .before .before .before .before .before .before .before .before .before .before .before .before .before .before .before .before .before .before .before .before .before .before .before .before .before .pre .1 .low)
@@ -50,7 +64,15 @@ loop-less : tie.Need-loop-less Inv-loop μ-loop
 loop-less c = omega (arith, c .before .before .before .before .before .before .before .before .before .before .before .before .before .before .before .before .before .before .before .loop-test .taken)
 
 loop-again : tie.Need-loop-again Inv-loop μ-loop
-loop-again c = (finding-next _ _ _ _ _ _ (c .before .before .before .before .before .before .before .before .before .before .before .before .before .before .before .before .before .before .before .before .before .before .before .before .before .before .before .before .pre .1) _ _ _ _ (c .before .before .before .before .before .before .before .before .before .before .before .before .before .before .before .before .before .before .before .before .loop .inv .0) (c .before .before .before .before .before .before .before .before .before .before .before .before .before .before .before .before .before .before .before .loop-test .taken) _ (c .before .before .before .before .before .before .before .before .before .before .before .before .before .before .before .before .before .before .quarter-rest .ensures) _ _ (c .before .before .before .before .before .before .before .before .before .before .before .before .before .before .before .totals .ensures) _ (c .before .before .before .before .before .before .before .before .before .step .given .1) _ _ (c .before .before .before .before .before .first-crossing .ensures) (c .next-before .ensures), record { marks = c .before .before .before .before .before .before .before .before .before .before .before .before .before .before .before .before .before .before .before .before .before .before .before .before .before .before .before .before .pre .2 .marks; bodyLong = c .before .before .before .before .before .first-crossing .kept .1 .1 .1 .1 .1 .1 .1 .1 .1 .1 .1 .1 .0 ∙ c .before .before .before .before .before .before .before .before .before .before .before .before .before .before .before .totals .kept .1 .1 .1 .1 .1 .1 .1 .1 .0 ∙ c .before .before .before .before .before .before .before .before .before .before .before .before .before .before .before .before .before .before .before .before .loop .inv .1 .bodyLong; spanLong = c .before .before .before .before .before .first-crossing .kept .1 .1 .1 .1 .1 .1 .1 .1 .1 .1 .1 .1 .1 .0 ∙ c .before .before .before .before .before .before .before .before .before .before .before .before .before .before .before .totals .kept .1 .1 .1 .1 .1 .1 .1 .1 .1 .0 ∙ c .before .before .before .before .before .before .before .before .before .before .before .before .before .before .before .before .before .before .before .before .loop .inv .1 .spanLong })
+loop-again c =
+    let c₁ = c .before .before .before .before .before in
+    let c₂ = c₁ .before .before .before .before in
+    let c₃ = c₂ .before .before .before .before .before .before in
+    let c₄ = c₃ .before .before .before in
+    let c₅ = c₄ .before in
+    let c₆ = c₅ .before in
+    let c₇ = c₆ .before .before .before .before .before .before .before .before in
+    (finding-next _ _ _ _ _ _ (c₇ .pre .1) _ _ _ _ (c₆ .loop .inv .0) (c₅ .loop-test .taken) _ (c₄ .quarter-rest .ensures) _ _ (c₃ .totals .ensures) _ (c₂ .step .given .1) _ _ (c₁ .first-crossing .ensures) (c .next-before .ensures), record { marks = c₇ .pre .2 .marks; bodyLong = c₁ .first-crossing .kept .1 .1 .1 .1 .1 .1 .1 .1 .1 .1 .1 .1 .0 ∙ c₃ .totals .kept .1 .1 .1 .1 .1 .1 .1 .1 .0 ∙ c₆ .loop .inv .1 .bodyLong; spanLong = c₁ .first-crossing .kept .1 .1 .1 .1 .1 .1 .1 .1 .1 .1 .1 .1 .1 .0 ∙ c₃ .totals .kept .1 .1 .1 .1 .1 .1 .1 .1 .1 .0 ∙ c₆ .loop .inv .1 .spanLong })
 
 enum-told : tie.Need-enum-told Inv-loop μ-loop
 enum-told c = search needs
@@ -65,7 +87,13 @@ same-length-2 : tie.Need-same-length-2 Inv-loop μ-loop
 same-length-2 c = c .before .before .before .before .before .before .before .totals .kept .1 .1 .1 .1 .1 .1 .1 .1 .1 .0 ∙ c .before .before .before .before .before .before .before .before .before .before .before .before .loop .inv .1 .spanLong ∙ sym (c .before .before .before .before .before .before .before .before .before .before .before .before .before .before .before .before .before .before .before .before .pre .2 .spanLong)
 
 returns : tie.Need-returns Inv-loop μ-loop
-returns c = c .refused2 .ensures ∙ refused-17 _ _ (c .before .before .before .before .before .before .before .before .before .before .before .before .before .before .before .before .before .before .before .before .pre .0) (finding-lacks _ _ _ _ _ _ (c .before .before .before .before .before .before .before .before .before .before .before .before .before .before .before .before .before .before .before .before .pre .1) _ _ _ _ (c .before .before .before .before .before .before .before .before .before .before .before .before .loop .inv .0) (c .before .before .before .before .before .before .before .before .before .before .before .loop-test .taken) _ (c .before .before .before .before .before .before .before .before .before .before .quarter-rest .ensures) _ _ (c .before .before .before .before .before .before .before .totals .ensures) (c .before .enum-told .given .1))
+returns c =
+    let c₁ = c .before .before .before .before .before .before .before in
+    let c₂ = c₁ .before .before .before in
+    let c₃ = c₂ .before in
+    let c₄ = c₃ .before in
+    let c₅ = c₄ .before .before .before .before .before .before .before .before in
+    c .refused2 .ensures ∙ refused-17 _ _ (c₅ .pre .0) (finding-lacks _ _ _ _ _ _ (c₅ .pre .1) _ _ _ _ (c₄ .loop .inv .0) (c₃ .loop-test .taken) _ (c₂ .quarter-rest .ensures) _ _ (c₁ .totals .ensures) (c .before .enum-told .given .1))
 
 same-length-3 : tie.Need-same-length-3 Inv-loop μ-loop
 same-length-3 c = c .before .loop .inv .1 .bodyLong ∙ sym (c .before .before .before .before .before .before .before .before .before .pre .2 .bodyLong)

@@ -43,7 +43,14 @@ cast-strides : tie.Need-cast-strides
 cast-strides c = search needs
 
 sub-strides : tie.Need-sub-strides
-sub-strides c = row-held _ _ _ _ _ _ (c .before .before .before .before .before .before .before .before .before .before .before .pre .0 .0 .rise) _ _ _ (c .before .before .before .before .before .before .before .before .before .before .before .pre .1 .0) (c .before .before .before .before .before .before .before .before .before .before .before .pre .1 .1) (c .before .before .before .before .before .before .before .before .before .before .before .pre .1 .2) (c .before .before .before .before .before .before .before .before .before .before .before .pre .0 .1) _ (c .before .before .before .before .before .needs-row .ensures) (omega (arith, c .before .before .before .before .before .before .before .before .if1 .left)) (c .before .before .before .before .if2 .taken) _ _ (c .before .before .inline-value .ensures) (c .before .before .before .row-value-at .ensures .0) .0
+sub-strides c =
+    let c₁ = c .before .before in
+    let c₂ = c₁ .before in
+    let c₃ = c₂ .before in
+    let c₄ = c₃ .before in
+    let c₅ = c₄ .before .before .before in
+    let c₆ = c₅ .before .before .before in
+    row-held _ _ _ _ _ _ (c₆ .pre .0 .0 .rise) _ _ _ (c₆ .pre .1 .0) (c₆ .pre .1 .1) (c₆ .pre .1 .2) (c₆ .pre .0 .1) _ (c₄ .needs-row .ensures) (omega (arith, c₅ .if1 .left)) (c₃ .if2 .taken) _ _ (c₁ .inline-value .ensures) (c₂ .row-value-at .ensures .0) .0
 
 cast-strides-2 : tie.Need-cast-strides-2
 cast-strides-2 c = search needs
@@ -55,7 +62,14 @@ cast-spans : tie.Need-cast-spans
 cast-spans c = search needs
 
 sub-spans : tie.Need-sub-spans
-sub-spans c = row-held _ _ _ _ _ _ (c .before .before .before .before .before .before .before .before .before .before .before .before .before .before .pre .0 .0 .rise) _ _ _ (c .before .before .before .before .before .before .before .before .before .before .before .before .before .before .pre .1 .0) (c .before .before .before .before .before .before .before .before .before .before .before .before .before .before .pre .1 .1) (c .before .before .before .before .before .before .before .before .before .before .before .before .before .before .pre .1 .2) (c .before .before .before .before .before .before .before .before .before .before .before .before .before .before .pre .0 .1) _ (c .before .before .before .before .before .before .before .before .needs-row .ensures) (omega (arith, c .before .before .before .before .before .before .before .before .before .before .before .if1 .left)) (c .before .before .before .before .before .before .before .if2 .taken) _ _ (c .before .before .before .before .before .inline-value .ensures) (c .before .before .before .before .before .before .row-value-at .ensures .0) .1
+sub-spans c =
+    let c₁ = c .before .before .before .before .before in
+    let c₂ = c₁ .before in
+    let c₃ = c₂ .before in
+    let c₄ = c₃ .before in
+    let c₅ = c₄ .before .before .before in
+    let c₆ = c₅ .before .before .before in
+    row-held _ _ _ _ _ _ (c₆ .pre .0 .0 .rise) _ _ _ (c₆ .pre .1 .0) (c₆ .pre .1 .1) (c₆ .pre .1 .2) (c₆ .pre .0 .1) _ (c₄ .needs-row .ensures) (omega (arith, c₅ .if1 .left)) (c₃ .if2 .taken) _ _ (c₁ .inline-value .ensures) (c₂ .row-value-at .ensures .0) .1
 
 cast-spans-2 : tie.Need-cast-spans-2
 cast-spans-2 c = search needs
@@ -64,10 +78,24 @@ add-spans : tie.Need-add-spans
 add-spans c = search needs
 
 sub-lacking : tie.Need-sub-lacking
-sub-lacking c = row-held _ _ _ _ _ _ (c .before .before .before .before .before .before .before .before .before .before .before .before .before .before .before .before .pre .0 .0 .rise) _ _ _ (c .before .before .before .before .before .before .before .before .before .before .before .before .before .before .before .before .pre .1 .0) (c .before .before .before .before .before .before .before .before .before .before .before .before .before .before .before .before .pre .1 .1) (c .before .before .before .before .before .before .before .before .before .before .before .before .before .before .before .before .pre .1 .2) (c .before .before .before .before .before .before .before .before .before .before .before .before .before .before .before .before .pre .0 .1) _ (c .before .before .before .before .before .before .before .before .before .before .needs-row .ensures) (omega (arith, c .before .before .before .before .before .before .before .before .before .before .before .before .before .if1 .left)) (c .before .before .before .before .before .before .before .before .before .if2 .taken) _ _ (c .before .before .before .before .before .before .before .inline-value .ensures) (c .before .before .before .before .before .before .before .before .row-value-at .ensures .0) .2
+sub-lacking c =
+    let c₁ = c .before .before .before .before .before .before .before in
+    let c₂ = c₁ .before in
+    let c₃ = c₂ .before in
+    let c₄ = c₃ .before in
+    let c₅ = c₄ .before .before .before in
+    let c₆ = c₅ .before .before .before in
+    row-held _ _ _ _ _ _ (c₆ .pre .0 .0 .rise) _ _ _ (c₆ .pre .1 .0) (c₆ .pre .1 .1) (c₆ .pre .1 .2) (c₆ .pre .0 .1) _ (c₄ .needs-row .ensures) (omega (arith, c₅ .if1 .left)) (c₃ .if2 .taken) _ _ (c₁ .inline-value .ensures) (c₂ .row-value-at .ensures .0) .2
 
 returns-2 : tie.Need-returns-2
-returns-2 c = row-placed _ _ _ _ _ _ (c .before .before .before .before .before .before .before .before .before .before .before .before .before .before .before .before .pre .0 .0 .rise) _ _ _ (c .before .before .before .before .before .before .before .before .before .before .before .before .before .before .before .before .pre .1 .0) (c .before .before .before .before .before .before .before .before .before .before .before .before .before .before .before .before .pre .1 .1) (c .before .before .before .before .before .before .before .before .before .before .before .before .before .before .before .before .pre .1 .2) (c .before .before .before .before .before .before .before .before .before .before .before .before .before .before .before .before .pre .0 .1) _ (c .before .before .before .before .before .before .before .before .before .before .needs-row .ensures) (omega (arith, c .before .before .before .before .before .before .before .before .before .before .before .before .before .if1 .left)) (c .before .before .before .before .before .before .before .before .before .if2 .taken) _ _ (c .before .before .before .before .before .before .before .inline-value .ensures) (c .before .before .before .before .before .before .before .before .row-value-at .ensures .0) _ _ _ (c .before .before .before .before .before .before .before .before .row-value-at .ensures .1) (c .before .before .before .before .before .before .before .before .row-value-at .ensures .2) (omega arith) (omega arith) (omega arith)
+returns-2 c =
+    let c₁ = c .before .before .before .before .before .before .before in
+    let c₂ = c₁ .before in
+    let c₃ = c₂ .before in
+    let c₄ = c₃ .before in
+    let c₅ = c₄ .before .before .before in
+    let c₆ = c₅ .before .before .before in
+    row-placed _ _ _ _ _ _ (c₆ .pre .0 .0 .rise) _ _ _ (c₆ .pre .1 .0) (c₆ .pre .1 .1) (c₆ .pre .1 .2) (c₆ .pre .0 .1) _ (c₄ .needs-row .ensures) (omega (arith, c₅ .if1 .left)) (c₃ .if2 .taken) _ _ (c₁ .inline-value .ensures) (c₂ .row-value-at .ensures .0) _ _ _ (c₂ .row-value-at .ensures .1) (c₂ .row-value-at .ensures .2) (omega arith) (omega arith) (omega arith)
 
 returns-3 : tie.Need-returns-3
 returns-3 c = row-unneeded _ _ _ _ _ _ (c .before .before .before .before .before .before .before .pre .0 .0 .rise) _ _ _ (c .before .before .before .before .before .before .before .pre .1 .0) (c .before .before .before .before .before .before .before .pre .1 .1) (c .before .before .before .before .before .before .before .pre .1 .2) (c .before .before .before .before .before .before .before .pre .0 .1) _ (c .before .needs-row .ensures) (c .if2 .left)

@@ -109,34 +109,78 @@ cast-x-3 : tie.Need-cast-x-3 Inv-loop μ-loop
 cast-x-3 c = search needs
 
 add-x-2 : tie.Need-add-x-2 Inv-loop μ-loop
-add-x-2 c = omega (arith, swap-sums _ _ _ _ _ _ _ _ _ _ _ (c .before .before .before .before .before .before .before .before .before .before .loop .inv) (c .before .before .before .before .before .before .before .before .before .loop-test .taken) (c .before .before .before .before .before .before .before .before .lowest-record .ensures) _ _ (c .before .before .before .before .before .before .before .before .before .before .before .before .before .before .before .before .before .before .before .before .before .before .before .before .pre) _ (c .before .before .inline-value .ensures), c .before .before .before .before .before .row-value-at .ensures .1)
+add-x-2 c =
+    let c₁ = c .before .before in
+    let c₂ = c₁ .before .before .before in
+    let c₃ = c₂ .before .before .before in
+    let c₄ = c₃ .before in
+    let c₅ = c₄ .before in
+    let c₆ = c₅ .before .before .before .before .before .before .before .before .before .before .before .before .before .before in
+    omega (arith, swap-sums _ _ _ _ _ _ _ _ _ _ _ (c₅ .loop .inv) (c₄ .loop-test .taken) (c₃ .lowest-record .ensures) _ _ (c₆ .pre) _ (c₁ .inline-value .ensures), c₂ .row-value-at .ensures .1)
 
 cast-y-2 : tie.Need-cast-y-2 Inv-loop μ-loop
 cast-y-2 c = search needs
 
 sub-y : tie.Need-sub-y Inv-loop μ-loop
-sub-y c = omega (arith, swap-sums _ _ _ _ _ _ _ _ _ _ _ (c .before .before .before .before .before .before .before .before .before .before .before .loop .inv) (c .before .before .before .before .before .before .before .before .before .before .loop-test .taken) (c .before .before .before .before .before .before .before .before .before .lowest-record .ensures) _ _ (c .before .before .before .before .before .before .before .before .before .before .before .before .before .before .before .before .before .before .before .before .before .before .before .before .before .pre) _ (c .before .before .before .inline-value .ensures))
+sub-y c =
+    let c₁ = c .before .before .before in
+    let c₂ = c₁ .before .before .before .before .before .before in
+    let c₃ = c₂ .before in
+    let c₄ = c₃ .before in
+    let c₅ = c₄ .before .before .before .before .before .before .before .before .before .before .before .before .before .before in
+    omega (arith, swap-sums _ _ _ _ _ _ _ _ _ _ _ (c₄ .loop .inv) (c₃ .loop-test .taken) (c₂ .lowest-record .ensures) _ _ (c₅ .pre) _ (c₁ .inline-value .ensures))
 
 cast-y-3 : tie.Need-cast-y-3 Inv-loop μ-loop
 cast-y-3 c = search needs
 
 add-y-2 : tie.Need-add-y-2 Inv-loop μ-loop
-add-y-2 c = omega (arith, swap-sums _ _ _ _ _ _ _ _ _ _ _ (c .before .before .before .before .before .before .before .before .before .before .before .before .loop .inv) (c .before .before .before .before .before .before .before .before .before .before .before .loop-test .taken) (c .before .before .before .before .before .before .before .before .before .before .lowest-record .ensures) _ _ (c .before .before .before .before .before .before .before .before .before .before .before .before .before .before .before .before .before .before .before .before .before .before .before .before .before .before .pre) _ (c .before .before .before .before .inline-value .ensures), c .before .before .before .before .before .before .before .row-value-at .ensures .2)
+add-y-2 c =
+    let c₁ = c .before .before .before .before in
+    let c₂ = c₁ .before .before .before in
+    let c₃ = c₂ .before .before .before in
+    let c₄ = c₃ .before in
+    let c₅ = c₄ .before in
+    let c₆ = c₅ .before .before .before .before .before .before .before .before .before .before .before .before .before .before in
+    omega (arith, swap-sums _ _ _ _ _ _ _ _ _ _ _ (c₅ .loop .inv) (c₄ .loop-test .taken) (c₃ .lowest-record .ensures) _ _ (c₆ .pre) _ (c₁ .inline-value .ensures), c₂ .row-value-at .ensures .2)
 
 add-row : tie.Need-add-row Inv-loop μ-loop
 add-row c = omega (arith, c .before .before .before .before .before .before .before .before .before .find-row .ensures .inside, c .before .before .before .before .before .before .before .before .if1 .left, c .before .before .before .before .before .before .before .before .before .before .before .before .before .before .before .before .before .before .before .before .before .before .before .before .before .before .fits)
 
 add-j-2 : tie.Need-add-j-2 Inv-loop μ-loop
-add-j-2 c = omega (arith, swap-place _ _ _ _ _ _ _ _ _ _ _ (c .before .before .before .before .before .before .before .before .before .before .before .before .loop .inv) (c .before .before .before .before .before .before .before .before .before .before .before .loop-test .taken) (c .before .before .before .before .before .before .before .before .before .before .lowest-record .ensures) _ _ (c .before .before .before .before .before .before .before .before .before .before .before .before .before .before .before .before .before .before .before .before .before .before .before .before .before .before .pre))
+add-j-2 c =
+    let c₁ = c .before .before .before .before .before .before .before .before .before .before in
+    let c₂ = c₁ .before in
+    let c₃ = c₂ .before in
+    let c₄ = c₃ .before .before .before .before .before .before .before .before .before .before .before .before .before .before in
+    omega (arith, swap-place _ _ _ _ _ _ _ _ _ _ _ (c₃ .loop .inv) (c₂ .loop-test .taken) (c₁ .lowest-record .ensures) _ _ (c₄ .pre))
 
 mask-after-requires : tie.Need-mask-after-requires Inv-loop μ-loop
-mask-after-requires c κs = omega (arith, swap-place _ _ _ _ _ _ _ _ _ _ _ (c .before .before .before .before .before .before .before .before .before .before .before .before .loop .inv) (c .before .before .before .before .before .before .before .before .before .before .before .loop-test .taken) (c .before .before .before .before .before .before .before .before .before .before .lowest-record .ensures) _ _ (c .before .before .before .before .before .before .before .before .before .before .before .before .before .before .before .before .before .before .before .before .before .before .before .before .before .before .pre))
+mask-after-requires c κs =
+    let c₁ = c .before .before .before .before .before .before .before .before .before .before in
+    let c₂ = c₁ .before in
+    let c₃ = c₂ .before in
+    let c₄ = c₃ .before .before .before .before .before .before .before .before .before .before .before .before .before .before in
+    omega (arith, swap-place _ _ _ _ _ _ _ _ _ _ _ (c₃ .loop .inv) (c₂ .loop-test .taken) (c₁ .lowest-record .ensures) _ _ (c₄ .pre))
 
 loop-less : tie.Need-loop-less Inv-loop μ-loop
-loop-less c = omega (arith, swap-place _ _ _ _ _ _ _ _ _ _ _ (c .before .before .before .before .before .before .before .before .before .before .before .before .before .loop .inv) (c .before .before .before .before .before .before .before .before .before .before .before .before .loop-test .taken) (c .before .before .before .before .before .before .before .before .before .before .before .lowest-record .ensures) _ _ (c .before .before .before .before .before .before .before .before .before .before .before .before .before .before .before .before .before .before .before .before .before .before .before .before .before .before .before .pre))
+loop-less c =
+    let c₁ = c .before .before .before .before .before .before .before .before .before .before .before in
+    let c₂ = c₁ .before in
+    let c₃ = c₂ .before in
+    let c₄ = c₃ .before .before .before .before .before .before .before .before .before .before .before .before .before .before in
+    omega (arith, swap-place _ _ _ _ _ _ _ _ _ _ _ (c₃ .loop .inv) (c₂ .loop-test .taken) (c₁ .lowest-record .ensures) _ _ (c₄ .pre))
 
 loop-again : tie.Need-loop-again Inv-loop μ-loop
-loop-again c = swap-next _ _ _ _ _ _ _ _ _ _ _ (c .before .before .before .before .before .before .before .before .before .before .before .before .before .loop .inv) (c .before .before .before .before .before .before .before .before .before .before .before .before .loop-test .taken) (c .before .before .before .before .before .before .before .before .before .before .before .lowest-record .ensures) _ _ (c .before .before .before .before .before .before .before .before .before .before .before .before .before .before .before .before .before .before .before .before .before .before .before .before .before .before .before .pre) _ _ refl (c .before .before .before .before .before .before .before .before .before .before .find-row .ensures) _ (c .before .before .before .before .before .before .before .before .row-value-at .result) _ (c .before .before .before .before .before .inline-value .ensures) (c .before .before .before .before .before .before .before .before .before .if1 .left) (c .before .before .before .before .before .before .before .before .row-value-at .ensures .0) (c .before .before .before .before .before .before .before .before .row-value-at .ensures .1) (c .before .before .before .before .before .before .before .before .row-value-at .ensures .2) (c .mask-after .ensures)
+loop-again c =
+    let c₁ = c .before .before .before .before .before in
+    let c₂ = c₁ .before .before .before in
+    let c₃ = c₂ .before in
+    let c₄ = c₃ .before in
+    let c₅ = c₄ .before in
+    let c₆ = c₅ .before in
+    let c₇ = c₆ .before in
+    let c₈ = c₇ .before .before .before .before .before .before .before .before .before .before .before .before .before .before in
+    swap-next _ _ _ _ _ _ _ _ _ _ _ (c₇ .loop .inv) (c₆ .loop-test .taken) (c₅ .lowest-record .ensures) _ _ (c₈ .pre) _ _ refl (c₄ .find-row .ensures) _ (c₂ .row-value-at .result) _ (c₁ .inline-value .ensures) (c₃ .if1 .left) (c₂ .row-value-at .ensures .0) (c₂ .row-value-at .ensures .1) (c₂ .row-value-at .ensures .2) (c .mask-after .ensures)
 
 add-t18 : tie.Need-add-t18 Inv-loop μ-loop
 add-t18 c = search needs

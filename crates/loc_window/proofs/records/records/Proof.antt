@@ -59,7 +59,11 @@ mul-span-4 : tie.Need-mul-span-4 Inv-loop μ-loop
 mul-span-4 c = search needs
 
 slice-write-span-2 : tie.Need-slice-write-span-2 Inv-loop μ-loop
-slice-write-span-2 c = omega (arith, walked-long _ _ _ _ _ _ _ _ _ _ _ (now (c .before .before .before .before .before .before .before .before .before .before .before .before .before .before .args .body)) (now (c .before .before .before .before .before .before .before .before .before .before .before .before .before .before .args .span)) _ _ (c .before .before .before .before .before .before .before .loop .inv) .1, c .before .before .before .before .before .before .loop-test .taken, c .before .before .before .before .before .before .before .before .before .before .before .before .before .before .pre .spanRoom)
+slice-write-span-2 c =
+    let c₁ = c .before .before .before .before .before .before in
+    let c₂ = c₁ .before in
+    let c₃ = c₂ .before .before .before .before .before .before .before in
+    omega (arith, walked-long _ _ _ _ _ _ _ _ _ _ _ (now (c₃ .args .body)) (now (c₃ .args .span)) _ _ (c₂ .loop .inv) .1, c₁ .loop-test .taken, c₃ .pre .spanRoom)
 
 loop-less : tie.Need-loop-less Inv-loop μ-loop
 loop-less c = search needs

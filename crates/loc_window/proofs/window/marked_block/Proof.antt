@@ -52,7 +52,11 @@ cast-t26 : tie.Need-cast-t26
 cast-t26 c = omega (arith, body-asks _ _ _ _ _ _ _ _ _ _ _ _ _ (c .before .before .before .before .before .before .before .before .before .before .before .before .before .before .before .before .before .before .before .before .before .before .before .pre .1) (c .before .before .before .before .before .before .before .before .before .before .before .before .before .before .before .before .before .if1 .taken) (c .before .before .before .before .before .before .before .before .before .before .before .before .block-sums .ensures) .2 7 (omega arith))
 
 add-t34 : tie.Need-add-t34
-add-t34 c = omega (arith, body-asks _ _ _ _ _ _ _ _ _ _ _ _ _ (c .before .before .before .before .before .before .before .before .before .before .before .before .before .before .before .before .before .before .before .before .before .before .before .before .pre .1) (c .before .before .before .before .before .before .before .before .before .before .before .before .before .before .before .before .before .before .if1 .taken) (c .before .before .before .before .before .before .before .before .before .before .before .before .before .block-sums .ensures) .1, body-asks _ _ _ _ _ _ _ _ _ _ _ _ _ (c .before .before .before .before .before .before .before .before .before .before .before .before .before .before .before .before .before .before .before .before .before .before .before .before .pre .1) (c .before .before .before .before .before .before .before .before .before .before .before .before .before .before .before .before .before .before .if1 .taken) (c .before .before .before .before .before .before .before .before .before .before .before .before .before .block-sums .ensures) .2 7 (omega arith))
+add-t34 c =
+    let c₁ = c .before .before .before .before .before .before .before .before .before .before .before .before .before in
+    let c₂ = c₁ .before .before .before .before .before in
+    let c₃ = c₂ .before .before .before .before .before .before in
+    omega (arith, body-asks _ _ _ _ _ _ _ _ _ _ _ _ _ (c₃ .pre .1) (c₂ .if1 .taken) (c₁ .block-sums .ensures) .1, body-asks _ _ _ _ _ _ _ _ _ _ _ _ _ (c₃ .pre .1) (c₂ .if1 .taken) (c₁ .block-sums .ensures) .2 7 (omega arith))
 
 array-read-t37 : tie.Need-array-read-t37
 array-read-t37 c = search needs
@@ -61,7 +65,11 @@ cast-t38 : tie.Need-cast-t38
 cast-t38 c = omega (arith, span-asks _ _ _ _ _ _ _ _ _ _ _ _ _ (c .before .before .before .before .before .before .before .before .before .before .before .before .before .before .before .before .before .before .before .before .before .before .before .before .pre .1) (c .before .before .before .before .before .before .before .before .before .before .before .before .before .before .before .before .before .before .if1 .taken) (c .before .before .before .before .before .before .before .before .before .before .before .before .before .block-sums .ensures) .2 7 (omega arith))
 
 add-t40 : tie.Need-add-t40
-add-t40 c = omega (arith, span-asks _ _ _ _ _ _ _ _ _ _ _ _ _ (c .before .before .before .before .before .before .before .before .before .before .before .before .before .before .before .before .before .before .before .before .before .before .before .before .before .pre .1) (c .before .before .before .before .before .before .before .before .before .before .before .before .before .before .before .before .before .before .before .if1 .taken) (c .before .before .before .before .before .before .before .before .before .before .before .before .before .before .block-sums .ensures) .1, span-asks _ _ _ _ _ _ _ _ _ _ _ _ _ (c .before .before .before .before .before .before .before .before .before .before .before .before .before .before .before .before .before .before .before .before .before .before .before .before .before .pre .1) (c .before .before .before .before .before .before .before .before .before .before .before .before .before .before .before .before .before .before .before .if1 .taken) (c .before .before .before .before .before .before .before .before .before .before .before .before .before .before .block-sums .ensures) .2 7 (omega arith))
+add-t40 c =
+    let c₁ = c .before .before .before .before .before .before .before .before .before .before .before .before .before .before in
+    let c₂ = c₁ .before .before .before .before .before in
+    let c₃ = c₂ .before .before .before .before .before .before in
+    omega (arith, span-asks _ _ _ _ _ _ _ _ _ _ _ _ _ (c₃ .pre .1) (c₂ .if1 .taken) (c₁ .block-sums .ensures) .1, span-asks _ _ _ _ _ _ _ _ _ _ _ _ _ (c₃ .pre .1) (c₂ .if1 .taken) (c₁ .block-sums .ensures) .2 7 (omega arith))
 
 add-t41 : tie.Need-add-t41
 add-t41 c = omega (arith, c .before .before .before .before .before .before .before .before .before .before .before .before .before .before .before .before .before .before .before .before .before .before .before .before .before .before .pre .1 .few, c .before .before .before .before .before .before .before .before .before .before .before .before .before .before .before .before .before .before .before .before .before .before .before .before .before .before .pre .0)
@@ -73,7 +81,17 @@ same-length-2 : tie.Need-same-length-2
 same-length-2 c = search needs
 
 returns : tie.Need-returns
-returns c = block-recorded _ _ _ _ _ _ _ (c .before .before .before .before .before .before .before .before .before .before .before .before .before .before .before .before .before .before .before .word-at .ensures) (c .before .before .before .before .before .before .before .before .before .before .before .before .before .before .before .before .before .before .word-at2 .ensures) (c .before .before .before .before .before .before .before .before .before .before .before .before .before .before .before .before .before .before .before .before .before .before .before .before .before .before .pre .1 .after) (c .before .before .before .before .before .before .before .before .before .before .before .before .before .before .before .before .before .none-needs-row .ensures (c .before .before .before .before .before .before .before .before .before .before .before .before .before .before .before .before .if2 .taken)) _ _ _ _ _ _ (c .before .before .before .before .before .before .before .before .before .before .before .before .before .before .before .block-sums .ensures) (c .before .before .before .before .before .before .before .before .before .before .put-sums .ensures) (c .before .before .before .before .before .put-sums2 .ensures) _ (c .before .before .before .before .before .before .before .before .before .before .before .before .before .before .before .before .before .before .before .before .if1 .taken)
+returns c =
+    let c₁ = c .before .before .before .before .before in
+    let c₂ = c₁ .before .before .before .before .before in
+    let c₃ = c₂ .before .before .before .before .before in
+    let c₄ = c₃ .before in
+    let c₅ = c₄ .before in
+    let c₆ = c₅ .before in
+    let c₇ = c₆ .before in
+    let c₈ = c₇ .before in
+    let c₉ = c₈ .before .before .before .before .before .before in
+    block-recorded _ _ _ _ _ _ _ (c₇ .word-at .ensures) (c₆ .word-at2 .ensures) (c₉ .pre .1 .after) (c₅ .none-needs-row .ensures (c₄ .if2 .taken)) _ _ _ _ _ _ (c₃ .block-sums .ensures) (c₂ .put-sums .ensures) (c₁ .put-sums2 .ensures) _ (c₈ .if1 .taken)
 
 add-block-end : tie.Need-add-block-end
 add-block-end c = search needs

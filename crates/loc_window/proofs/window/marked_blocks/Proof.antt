@@ -28,10 +28,20 @@ enum-known-step : tie.Need-enum-known-step Inv-loop μ-loop
 enum-known-step c = search needs
 
 loop-less : tie.Need-loop-less Inv-loop μ-loop
-loop-less c = omega (arith, c .before .before .before .before .before .before .before .before .before .before .if1 .taken, marking-next _ _ _ _ _ _ _ _ _ _ _ _ _ _ (c .before .before .before .before .before .before .before .before .before .before .before .before .loop .inv) (omega (arith, c .before .before .before .before .before .before .before .before .before .before .before .before .before .marked-end .ensures .1)) (c .before .before .before .before .before .before .before .before .before .before .if1 .taken) (c .before .before .before .before .before .before .before .marked-block .result) _ _ (c .before .before .before .before .before .before .before .marked-block .ensures) (c .before .step .given .0 .0) (c .before .step .given .1) .0)
+loop-less c =
+    let c₁ = c .before .before .before .before .before .before .before in
+    let c₂ = c₁ .before .before .before in
+    let c₃ = c₂ .before .before in
+    let c₄ = c₃ .before in
+    omega (arith, c₂ .if1 .taken, marking-next _ _ _ _ _ _ _ _ _ _ _ _ _ _ (c₃ .loop .inv) (omega (arith, c₄ .marked-end .ensures .1)) (c₂ .if1 .taken) (c₁ .marked-block .result) _ _ (c₁ .marked-block .ensures) (c .before .step .given .0 .0) (c .before .step .given .1) .0)
 
 loop-again : tie.Need-loop-again Inv-loop μ-loop
-loop-again c = marking-next _ _ _ _ _ _ _ _ _ _ _ _ _ _ (c .before .before .before .before .before .before .before .before .before .before .before .before .loop .inv) (omega (arith, c .before .before .before .before .before .before .before .before .before .before .before .before .before .marked-end .ensures .1)) (c .before .before .before .before .before .before .before .before .before .before .if1 .taken) (c .before .before .before .before .before .before .before .marked-block .result) _ _ (c .before .before .before .before .before .before .before .marked-block .ensures) (c .before .step .given .0 .0) (c .before .step .given .1) .1
+loop-again c =
+    let c₁ = c .before .before .before .before .before .before .before in
+    let c₂ = c₁ .before .before .before in
+    let c₃ = c₂ .before .before in
+    let c₄ = c₃ .before in
+    marking-next _ _ _ _ _ _ _ _ _ _ _ _ _ _ (c₃ .loop .inv) (omega (arith, c₄ .marked-end .ensures .1)) (c₂ .if1 .taken) (c₁ .marked-block .result) _ _ (c₁ .marked-block .ensures) (c .before .step .given .0 .0) (c .before .step .given .1) .1
 
 enum-told : tie.Need-enum-told Inv-loop μ-loop
 enum-told c = search needs

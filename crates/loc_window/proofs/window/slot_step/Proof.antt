@@ -34,7 +34,12 @@ same-length-2 : tie.Need-same-length-2
 same-length-2 c = search needs
 
 returns-2 : tie.Need-returns-2
-returns-2 c = step-later (c .before .before .before .before .before .before .before .before .before .before .before .before .before .before .before .before .before .before .args .kind) (c .before .before .before .before .before .before .before .before .before .before .before .before .before .before .before .before .before .before .args .base) (now (c .before .before .before .before .before .before .before .before .before .before .before .before .before .before .before .before .before .before .args .bytes)) (now (c .before .before .before .before .before .before .before .before .before .before .before .before .before .before .before .before .before .before .args .rows)) (now (c .before .before .before .before .before .before .before .before .before .before .before .before .before .before .before .before .before .before .args .mark)) (c .before .before .before .before .before .before .before .before .before .before .before .before .before .before .before .before .before .before .args .stamp) (c .before .before .before .before .before .before .before .before .before .before .before .before .before .before .before .before .before .before .args .block) _ (c .before .before .before .before .before .before .before .before .before .before .before .before .before .before .before .before .before .before .args .m) (c .before .before .before .before .marked-blocks .last .1 .1 .1 .1 .1 .1 .1 .1 .1 .0) (c .before .before .before .before .marked-blocks .last .1 .1 .1 .1 .1 .1 .1 .1 .1 .1 .0) (c .before .before .before .before .marked-blocks .result) (passed-next _ _ _ _ _ _ _ _ _ _ (c .before .before .before .before .before .before .before .before .before .before .step .given .1) (c .before .before .before .before .before .before .before .before .before .before .before .before .blocks2 .ensures) .more) (c .before .before .before .before .marked-blocks .ensures)
+returns-2 c =
+    let c₁ = c .before .before .before .before in
+    let c₂ = c₁ .before .before .before .before .before .before in
+    let c₃ = c₂ .before .before in
+    let c₄ = c₃ .before .before .before .before .before .before in
+    step-later (c₄ .args .kind) (c₄ .args .base) (now (c₄ .args .bytes)) (now (c₄ .args .rows)) (now (c₄ .args .mark)) (c₄ .args .stamp) (c₄ .args .block) _ (c₄ .args .m) (c₁ .marked-blocks .last .1 .1 .1 .1 .1 .1 .1 .1 .1 .0) (c₁ .marked-blocks .last .1 .1 .1 .1 .1 .1 .1 .1 .1 .1 .0) (c₁ .marked-blocks .result) (passed-next _ _ _ _ _ _ _ _ _ _ (c₂ .step .given .1) (c₃ .blocks2 .ensures) .more) (c₁ .marked-blocks .ensures)
 
 returns-3 : tie.Need-returns-3
 returns-3 c = passed-lack _ _ _ _ _ _ _ _ _ (c .enum-told .given .1) (c .before .before .blocks2 .ensures)
