@@ -1,28 +1,24 @@
 -- The places of an append, in the form in which the code meets them.
 -- A part that was lent comes back as a store in the whole.
-use Prim.Native.Nat.{ℕ, zero, suc, _+_, _-_, _≤_, min}
-use mathlib.Core.Path.{_≡_, refl, sym, _∙_}
-use mathlib.Core.Bool.{Bool, true, false, cond}
+use Prim.Native.Nat.{ℕ, zero, suc, _-_, _≤_, min}
+use mathlib.Core.Path.{_≡_, refl, sym}
 use mathlib.Core.List.{List, append-nil, flatten}
 use native.Mathlib.Nat.{add-zero}
-use native.Mathlib.Numerals.{add-one}
 use native.Mathlib.Omega.{arith}
-use native.Mathlib.Decide.{decLe}
-use lib.Dec.{eqb}
 use lib.ListN.{length, take, drop, getD, length-drop, drop-of-length-le}
 use borrow.Rule.Slice.PartMut.{putMid}
-use borrow.Author.Tests.{eq-eqb, ne-eqb}
 use Rattle.loc_leaf.specs.declared.Kind.{Kind}
 use Rattle.loc_leaf.specs.Bytes.{Bytes, store}
-use Rattle.loc_leaf.specs.Area.{counted, storeLength, storePast}
+use Rattle.loc_leaf.specs.Area.{counted, storePast}
 use Rattle.loc_leaf.proofs.NumberLaws.{part-all}
 use Rattle.loc_calls.specs.Areas.{Areas, each, areas}
 use Rattle.loc_calls.specs.Table.{Entry}
-use Rattle.loc_calls.specs.Stores.{Place, keep, slotLength, rowLength, checkpointLength, write, step, run, gather, slotOf, rowOf, checkpointOf, staged}
-use Rattle.loc_calls.proofs.Settled.{run-next, run-all}
+use Rattle.loc_calls.specs.Stores.{Place, keep, write, step, run, gather, slotOf, rowOf, checkpointOf, staged}
+use Rattle.loc_store.specs.Plans.{fitted}
+use Rattle.loc_store.proofs.StoreLaws.{step-slots, step-rows, step-checkpoints, run-done}
 use Rattle.loc_batch.proofs.StageLaws.{store-tail}
 use Rattle.loc_batch.specs.Lists.{Room, Staged}
-use Rattle.loc_batch.specs.Plans.{growing, grown, stagePlaces, RoomPast}
+use Rattle.loc_batch.specs.Plans.{stagePlaces, RoomPast}
 use Rattle.loc_batch.specs.declared.Stage.{Stage}
 
 -- ---- a part that was lent
@@ -47,45 +43,24 @@ module _ (k : Kind) (base : ℕ) (es : List Entry) (slots rows checkpoints : Byt
   unfolding step staged
   bytes-written a b c s = rw (lent slots x (flatten (gather (slotOf k) base es)) a ex (s .isSlots), lent rows y (flatten (gather (rowOf k) base es)) b ey (s .isRows), lent checkpoints z (flatten (gather (checkpointOf k) base es)) c ez (s .isCheckpoints)) refl
 
--- ---- lengths
-
-module _ (xs : Bytes) (old new : ℕ) where
-  pub grown-same : new ≡ old → xs ≡ grown old new xs
-  unfolding grown
-  grown-same h = rw (eq-eqb new old h) refl
-
-  pub grown-other : (ys : Bytes) → (new ≡ old → ⊥) → ys ≡ storeLength new xs → ys ≡ grown old new xs
-  unfolding grown
-  grown-other ys h q = rw (ne-eqb new old h) q
-
 -- ---- the places
-
--- a place that stores a new length, in whichever area
-step-growing : (place : ℕ → Place) (inside : Bytes → Areas) (xs : Bytes) → ((v : ℕ) → step (place v) (inside xs) ≡ inside (storeLength v xs))
-    → (old new : ℕ) → step (growing place old new) (inside xs) ≡ inside (grown old new xs)
-unfolding step growing grown
-step-growing place inside xs h old new = go (eqb new old)
-  where
-    go : (b : Bool) → step (cond b keep (place new)) (inside xs) ≡ inside (cond b xs (storeLength new xs))
-    go true = refl
-    go false = h new
 
 module _ (k : Kind) (es : List Entry) (t : Stage) (p : ℕ) (s r c : Bytes) where
   pub place-bytes : (x y z : Bytes) → p ≡ 0 → areas x y z ≡ step (write (each flatten (staged k (t .base) es))) (areas s r c) → areas x y z ≡ step (getD (stagePlaces k es t) p keep) (areas s r c)
   unfolding stagePlaces
   place-bytes x y z e q = rw e q
 
-  pub place-slots : (x : Bytes) → p ≡ 1 → x ≡ grown (t .old .slots) (t .new .slots) s → areas x r c ≡ step (getD (stagePlaces k es t) p keep) (areas s r c)
-  unfolding stagePlaces step
-  place-slots x e q = rw (e, q) (sym (step-growing slotLength (λ x. areas x r c) s (λ v. refl) (t .old .slots) (t .new .slots)))
+  pub place-slots : (x : Bytes) → p ≡ 1 → x ≡ fitted (t .old .slots) (t .new .slots) s → areas x r c ≡ step (getD (stagePlaces k es t) p keep) (areas s r c)
+  unfolding stagePlaces
+  place-slots x e q = rw (e, q) (sym (step-slots s r c (t .old .slots) (t .new .slots)))
 
-  pub place-rows : (x : Bytes) → p ≡ 2 → x ≡ grown (t .old .rows) (t .new .rows) r → areas s x c ≡ step (getD (stagePlaces k es t) p keep) (areas s r c)
-  unfolding stagePlaces step
-  place-rows x e q = rw (e, q) (sym (step-growing rowLength (λ x. areas s x c) r (λ v. refl) (t .old .rows) (t .new .rows)))
+  pub place-rows : (x : Bytes) → p ≡ 2 → x ≡ fitted (t .old .rows) (t .new .rows) r → areas s x c ≡ step (getD (stagePlaces k es t) p keep) (areas s r c)
+  unfolding stagePlaces
+  place-rows x e q = rw (e, q) (sym (step-rows s r c (t .old .rows) (t .new .rows)))
 
-  pub place-checkpoints : (x : Bytes) → p ≡ 3 → x ≡ grown (t .old .checkpoints) (t .new .checkpoints) c → areas s r x ≡ step (getD (stagePlaces k es t) p keep) (areas s r c)
-  unfolding stagePlaces step
-  place-checkpoints x e q = rw (e, q) (sym (step-growing checkpointLength (λ x. areas s r x) c (λ v. refl) (t .old .checkpoints) (t .new .checkpoints)))
+  pub place-checkpoints : (x : Bytes) → p ≡ 3 → x ≡ fitted (t .old .checkpoints) (t .new .checkpoints) c → areas s r x ≡ step (getD (stagePlaces k es t) p keep) (areas s r c)
+  unfolding stagePlaces
+  place-checkpoints x e q = rw (e, q) (sym (step-checkpoints s r c (t .old .checkpoints) (t .new .checkpoints)))
 
   pub place-none : (p ≡ 0 → ⊥) → (p ≡ 1 → ⊥) → (p ≡ 2 → ⊥) → (p ≡ 3 → ⊥) → areas s r c ≡ step (getD (stagePlaces k es t) p keep) (areas s r c)
   unfolding stagePlaces step
@@ -100,19 +75,13 @@ module _ (k : Kind) (es : List Entry) (t : Stage) (p : ℕ) (s r c : Bytes) wher
 
 -- ---- the run
 
-module _ (ps : List Place) (i : ℕ) (s r c : Bytes) (a : Areas) (inv : areas s r c ≡ run i ps a) where
-  -- the bytes are written before anything else
-  pub room-first : (k : Kind) (base n : ℕ) (es : List Entry) → RoomPast k base n es a → i ≡ 0 → RoomPast k base n es (areas s r c)
-  unfolding run
-  room-first k base n es h z = let q : areas s r c ≡ a = rw z at inv in rw q h
+-- the bytes are written before anything else
+pub room-first : (ps : List Place) (i : ℕ) (s r c : Bytes) (a : Areas) → areas s r c ≡ run i ps a
+    → (k : Kind) (base n : ℕ) (es : List Entry) → RoomPast k base n es a → i ≡ 0 → RoomPast k base n es (areas s r c)
+unfolding run
+room-first ps i s r c a inv k base n es h z = let q : areas s r c ≡ a = rw z at inv in rw q h
 
-  pub run-turn : (b : Areas) → b ≡ step (getD ps i keep) (areas s r c) → b ≡ run (i + 1) ps a
-  run-turn b q = q ∙ rw (inv, add-one i) (sym (run-next i ps a))
-
-pub run-done : (k : Kind) (es : List Entry) (t : Stage) (i last s : ℕ) (a b : Areas) → b ≡ run i (stagePlaces k es t) a → last ≡ min 4 s → i ≤ last → last ≤ i → b ≡ run s (stagePlaces k es t) a
+pub run-end : (k : Kind) (es : List Entry) (t : Stage) (s i last : ℕ) (a b : Areas) → b ≡ run i (stagePlaces k es t) a → last ≡ min s 4 → i ≤ last → last ≤ i
+    → b ≡ run s (stagePlaces k es t) a
 unfolding stagePlaces
-run-done k es t i last s a b inv e h g = go (decLe 4 s)
-  where
-    go : Dec (4 ≤ s) → b ≡ run s (stagePlaces k es t) a
-    go (yes m) = let q : i ≡ 4 = omega arith in inv ∙ rw q (sym (run-all s (stagePlaces k es t) a m))
-    go (no m) = let q : i ≡ s = omega arith in inv ∙ rw q refl
+run-end k es t = run-done (stagePlaces k es t) 4 refl

@@ -10,7 +10,7 @@ use Rattle.loc_leaf.specs.Answers.{_orElse_, acceptedWith, refusedBy}
 use Rattle.loc_leaf.specs.Area.{fill}
 use Rattle.loc_calls.specs.Areas.{Areas, areas, count}
 use Rattle.loc_calls.specs.Table.{Entry, Batch, append, entries}
-use Rattle.loc_calls.specs.Stores.{Place, run, differing, staged, appendPlaces}
+use Rattle.loc_calls.specs.Stores.{Place, run, staged, appendPlaces}
 use Rattle.loc_calls.specs.Calls.{firstRefusal, unread, isOpening, tableOf, refusal, places, value, call}
 use Rattle.loc_leaf.proofs.Refusals.{orElse-first, orElse-zero}
 use Rattle.loc_calls.specs.Promises.{Stored}
@@ -18,12 +18,12 @@ use Rattle.loc_calls.proofs.Outcomes.{refused, accepted, refusal-after}
 use Rattle.loc_store.specs.declared.Checked.{Checked}
 use Rattle.loc_store.specs.Areas.{Checks}
 use Rattle.loc_batch.specs.Lists.{entryAt, listed, Held}
-use Rattle.loc_batch.specs.Plans.{growing, stagePlaces, RoomPast, Ready, Planned}
+use Rattle.loc_batch.specs.Plans.{stagePlaces, RoomPast, Ready, Planned}
 use Rattle.loc_batch.specs.declared.Stage.{Stage}
 use Rattle.loc_batch.specs.declared.Decision.{Decision}
 
 pub places-are : (k : Kind) (a : Areas) (es : List Entry) (t : Stage) → Ready k a es t → stagePlaces k es t ≡ appendPlaces a (staged k (count a) es)
-unfolding stagePlaces appendPlaces growing differing staged
+unfolding stagePlaces appendPlaces staged
 places-are k a es t r =
     rw (r .oldSlots, r .oldRows, r .oldCheckpoints, r .newSlots, r .newRows, r .newCheckpoints, r .base) refl
 

@@ -2,18 +2,17 @@
 -- Of an inner crate: proofs/AppendLaws ties them to the places of loc_calls.
 use Prim.Native.Nat.{ℕ, _+_, _-_, _*_, _/_, _^_, _<_}
 use mathlib.Core.Path.{_≡_}
-use mathlib.Core.Bool.{cond, _||_}
+use mathlib.Core.Bool.{_||_}
 use mathlib.Core.List.{List, [], _∷_, flatten}
-use lib.Dec.{ltb, eqb}
+use lib.Dec.{ltb}
 use lib.ListN.{length}
 use Rattle.loc_leaf.specs.declared.Kind.{Kind}
-use Rattle.loc_leaf.specs.Bytes.{Bytes}
-use Rattle.loc_leaf.specs.Area.{counted, storeLength}
+use Rattle.loc_leaf.specs.Area.{counted}
 use Rattle.loc_leaf.specs.Answers.{refuse, _orElse_}
 use Rattle.loc_leaf.specs.Kind.{rowWidth, checkpointWidth}
 use Rattle.loc_calls.specs.Areas.{Areas, each, count}
 use Rattle.loc_calls.specs.Table.{Entry, Batch, append, entriesRefusal, startRefusal}
-use Rattle.loc_calls.specs.Stores.{Place, keep, slotLength, rowLength, checkpointLength, write, gather, slotOf, rowOf, checkpointOf, staged, newEnd}
+use Rattle.loc_calls.specs.Stores.{Place, slotLength, rowLength, checkpointLength, write, differing, gather, slotOf, rowOf, checkpointOf, staged, newEnd}
 use Rattle.loc_calls.specs.Reading.{endRead}
 use Rattle.loc_calls.specs.Calls.{tableOf}
 use Rattle.loc_store.specs.declared.Lengths.{Lengths}
@@ -21,20 +20,13 @@ use Rattle.loc_batch.specs.Lists.{entryAt, listed, rowTotal, Held, Room}
 use Rattle.loc_batch.specs.declared.Stage.{Stage}
 use Rattle.loc_batch.specs.declared.Decision.{Decision}
 
--- a length is stored only in an area whose end moves
-unfoldable pub growing : (ℕ → Place) → ℕ → ℕ → Place
-growing place old new = cond (eqb new old) keep (place new)
-
-unfoldable pub grown : ℕ → ℕ → Bytes → Bytes
-grown old new xs = cond (eqb new old) xs (storeLength new xs)
-
 -- bytes, then lengths of slots, rows, checkpoints
 unfoldable pub stagePlaces : Kind → List Entry → Stage → List Place
 stagePlaces k es t =
     write (each flatten (staged k (t .base) es))
-    ∷ growing slotLength (t .old .slots) (t .new .slots)
-    ∷ growing rowLength (t .old .rows) (t .new .rows)
-    ∷ growing checkpointLength (t .old .checkpoints) (t .new .checkpoints)
+    ∷ differing slotLength (t .old .slots) (t .new .slots)
+    ∷ differing rowLength (t .old .rows) (t .new .rows)
+    ∷ differing checkpointLength (t .old .checkpoints) (t .new .checkpoints)
     ∷ []
 
 -- the parts of the areas past their published ends have room for the records es

@@ -2,18 +2,18 @@
 // A step makes the store of one place and no other; a run makes those of the first places.
 ghost use mathlib.Core.Path.{_≡_};
 ghost use mathlib.Core.List.{flatten};
-ghost use Prim.Native.Nat.{_-_, min};
 ghost use lib.ListN.{getD};
 ghost use Rattle.loc_calls.specs.Table.{batch};
 ghost use Rattle.loc_calls.specs.Areas.{each, areas};
 ghost use Rattle.loc_calls.specs.Stores.{keep, write, step, run, staged};
 ghost use Rattle.loc_batch.specs.Lists.{entryAt, listed, Held};
-ghost use Rattle.loc_batch.specs.Plans.{grown, stagePlaces, RoomPast};
+ghost use Rattle.loc_batch.specs.Plans.{stagePlaces, RoomPast};
 use crate::Stage;
 use crate::staging::write_batch;
 use loc_leaf::Kind;
+use loc_leaf::delta_loc::lesser;
 use loc_leaf::file::logical_len;
-use loc_leaf::file::store_len;
+use loc_store::store::fit_len;
 
 // Each writer is lent the part of its area that begins at the published end.
 fn write_bytes(
@@ -49,14 +49,6 @@ fn write_bytes(
         n,
         base,
     );
-}
-
-fn grow(area: &mut [u8], old: u64, new: u64)
-    ensures { λ _. ⌜ now (area .exit) ≡ grown old new (now (area .entry)) ⌝ }
-{
-    if new != old {
-        store_len(area, new);
-    }
 }
 
 // The store of one place and no other.
@@ -98,23 +90,16 @@ fn append_step(
         return;
     }
     if place == 1 {
-        grow(slots, old.slots, new.slots);
+        fit_len(slots, old.slots, new.slots);
         return;
     }
     if place == 2 {
-        grow(rows, old.rows, new.rows);
+        fit_len(rows, old.rows, new.rows);
         return;
     }
     if place == 3 {
-        grow(checkpoints, old.checkpoints, new.checkpoints);
+        fit_len(checkpoints, old.checkpoints, new.checkpoints);
     }
-}
-
-// How many of the four places are among the first s.
-fn places_of(s: u64) -> u64
-    ensures { λ r. ⌜ r ≡ min 4 s ⌝ }
-{
-    if s < 4 { s } else { 4 }
 }
 
 // The stores of the first s places.
@@ -136,7 +121,7 @@ pub fn append_stores(
         ≡ run s (stagePlaces kind (listed (entryAt kind (batch (now (starts .entry)) (now (lens .entry)) (now («span_starts» .entry)) (now («span_counts» .entry)))) 0 (t .n)) t)
         (areas (now (slots .entry)) (now (rows .entry)) (now (checkpoints .entry))) ⌝ }
 {
-    let last = places_of(s);
+    let last = lesser(s, 4);
     let mut i: u64 = 0;
     while i < last {
         append_step(

@@ -18,6 +18,8 @@ use crate::entry::span_after;
 use crate::entry::value_of;
 use loc_leaf::Kind;
 use loc_leaf::Value;
+use loc_leaf::delta_loc::ROW_SPANS;
+use loc_leaf::delta_loc::ROW_STRIDES;
 use loc_leaf::delta_loc::checkpoint_width;
 use loc_leaf::delta_loc::pack;
 use loc_leaf::delta_loc::row_width;
@@ -48,10 +50,10 @@ fn put_row(out: &mut [u8], to: usize, kind: Kind, id: u64, v: Value)
     let strides = v.strides as u64;
     let spans = v.spans as u64;
     put_part(out, to, 8, id);
-    put_part(out, to + 8, 4, strides);
+    put_part(out, to + ROW_STRIDES, 4, strides);
     match kind {
         Kind::Paired => {
-            put_part(out, to + 12, 4, spans);
+            put_part(out, to + ROW_SPANS, 4, spans);
         }
         Kind::Single => {}
     }

@@ -161,15 +161,15 @@ module _ (k : Kind) (a : Areas) (E es : List Entry) (s : Full k a E) (v : AllVal
 
   run-two : run 2 places a ≡ two
   unfolding run step appendPlaces
-  run-two = step-slots (step (write (record { slots = flatten (b .slots); rows = flatten (b .rows); checkpoints = flatten (b .checkpoints) })) a) (a .slots) (newEnd (a .slots) (b .slots))
+  run-two = step-slots (step (write (record { slots = flatten (b .slots); rows = flatten (b .rows); checkpoints = flatten (b .checkpoints) })) a) (counted (a .slots)) (newEnd (a .slots) (b .slots))
 
   run-three : run 3 places a ≡ three
   unfolding run appendPlaces
-  run-three = ap (step (differing rowLength (a .rows) (newEnd (a .rows) (b .rows)))) run-two ∙ step-rows two (a .rows) (newEnd (a .rows) (b .rows))
+  run-three = ap (step (differing rowLength (counted (a .rows)) (newEnd (a .rows) (b .rows)))) run-two ∙ step-rows two (counted (a .rows)) (newEnd (a .rows) (b .rows))
 
   run-four : run 4 places a ≡ four
   unfolding run appendPlaces
-  run-four = ap (step (differing checkpointLength (a .checkpoints) (newEnd (a .checkpoints) (b .checkpoints)))) run-three ∙ step-checkpoints three (a .checkpoints) (newEnd (a .checkpoints) (b .checkpoints))
+  run-four = ap (step (differing checkpointLength (counted (a .checkpoints)) (newEnd (a .checkpoints) (b .checkpoints)))) run-three ∙ step-checkpoints three (counted (a .checkpoints)) (newEnd (a .checkpoints) (b .checkpoints))
 
   -- ---- what they hold
 

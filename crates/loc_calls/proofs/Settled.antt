@@ -9,7 +9,6 @@ use native.Mathlib.Omega.{arith}
 use lib.ListN.{length, take, getD}
 use borrow.Author.Tests.{le-ltb, eq-eqb}
 use Rattle.loc_leaf.specs.declared.Kind.{Kind}
-use Rattle.loc_leaf.specs.Bytes.{Bytes}
 use Rattle.loc_leaf.specs.Answers.{refuse, _orElse_}
 use Rattle.loc_leaf.specs.Area.{counted}
 use Rattle.loc_leaf.specs.Kind.{rowWidth, checkpointWidth}
@@ -90,17 +89,17 @@ module _ (k : Kind) (a : Areas) (E : List Entry) (r c : ℕ) (s : State k a E r 
 -- ---- areas that hold a list whole
 
 module _ (k : Kind) (a : Areas) (E : List Entry) (s : Full k a E) where
-  keeps : (place : ℕ → Place) (xs : Bytes) (v : ℕ) → counted xs ≡ v → differing place xs v ≡ keep
+  keeps : (place : ℕ → Place) (old v : ℕ) → old ≡ v → differing place old v ≡ keep
   unfolding differing
-  keeps place xs v h = rw (eq-eqb v (counted xs) (sym h)) refl
+  keeps place old v h = rw (eq-eqb v old (sym h)) refl
 
   nothing-to-truncate : truncatePlaces k (length E) a ≡ keep ∷ keep ∷ keep ∷ []
   unfolding truncatePlaces
   nothing-to-truncate =
       rw (
-        keeps checkpointLength (a .checkpoints) (16 + checkpointWidth k * (length E / 1024)) (s .checkpoints .end),
-        keeps rowLength (a .rows) (16 + rowWidth k * rowsUpTo (length E) (rowList k (a .rows))) (s .rows .end ∙ ap (λ (i : ℕ). 16 + rowWidth k * i) (sym all-rows)),
-        keeps slotLength (a .slots) (16 + 2 * length E) (s .slots .end),
+        keeps checkpointLength (counted (a .checkpoints)) (16 + checkpointWidth k * (length E / 1024)) (s .checkpoints .end),
+        keeps rowLength (counted (a .rows)) (16 + rowWidth k * rowsUpTo (length E) (rowList k (a .rows))) (s .rows .end ∙ ap (λ (i : ℕ). 16 + rowWidth k * i) (sym all-rows)),
+        keeps slotLength (counted (a .slots)) (16 + 2 * length E) (s .slots .end),
       ) refl
     where
       all-rows : rowsUpTo (length E) (rowList k (a .rows)) ≡ length (rowsOf k E)

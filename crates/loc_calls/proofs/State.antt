@@ -70,26 +70,26 @@ module _ (k : Kind) (a : Areas) (E : List Entry) (r c : ℕ) (s : State k a E r 
 
 -- ---- the store of one differing length
 
-module _ (a : Areas) (xs : Bytes) (v : ℕ) where
-  pub step-slots : step (differing slotLength xs v) a ≡ record { slots = cond (eqb v (counted xs)) (a .slots) (storeLength v (a .slots)); rows = a .rows; checkpoints = a .checkpoints }
+module _ (a : Areas) (old v : ℕ) where
+  pub step-slots : step (differing slotLength old v) a ≡ record { slots = cond (eqb v old) (a .slots) (storeLength v (a .slots)); rows = a .rows; checkpoints = a .checkpoints }
   unfolding step differing
-  step-slots = go (eqb v (counted xs))
+  step-slots = go (eqb v old)
     where
       go : (b : Bool) → step (cond b keep (slotLength v)) a ≡ record { slots = cond b (a .slots) (storeLength v (a .slots)); rows = a .rows; checkpoints = a .checkpoints }
       go true = refl
       go false = refl
 
-  pub step-rows : step (differing rowLength xs v) a ≡ record { slots = a .slots; rows = cond (eqb v (counted xs)) (a .rows) (storeLength v (a .rows)); checkpoints = a .checkpoints }
+  pub step-rows : step (differing rowLength old v) a ≡ record { slots = a .slots; rows = cond (eqb v old) (a .rows) (storeLength v (a .rows)); checkpoints = a .checkpoints }
   unfolding step differing
-  step-rows = go (eqb v (counted xs))
+  step-rows = go (eqb v old)
     where
       go : (b : Bool) → step (cond b keep (rowLength v)) a ≡ record { slots = a .slots; rows = cond b (a .rows) (storeLength v (a .rows)); checkpoints = a .checkpoints }
       go true = refl
       go false = refl
 
-  pub step-checkpoints : step (differing checkpointLength xs v) a ≡ record { slots = a .slots; rows = a .rows; checkpoints = cond (eqb v (counted xs)) (a .checkpoints) (storeLength v (a .checkpoints)) }
+  pub step-checkpoints : step (differing checkpointLength old v) a ≡ record { slots = a .slots; rows = a .rows; checkpoints = cond (eqb v old) (a .checkpoints) (storeLength v (a .checkpoints)) }
   unfolding step differing
-  step-checkpoints = go (eqb v (counted xs))
+  step-checkpoints = go (eqb v old)
     where
       go : (b : Bool) → step (cond b keep (checkpointLength v)) a ≡ record { slots = a .slots; rows = a .rows; checkpoints = cond b (a .checkpoints) (storeLength v (a .checkpoints)) }
       go true = refl
@@ -113,19 +113,19 @@ module _ (k : Kind) (a : Areas) (E : List Entry) (r c : ℕ) (s : State k a E r 
 
   run-one : run 1 (truncatePlaces k n a) a ≡ record { slots = a .slots; rows = a .rows; checkpoints = newCheckpoints }
   unfolding run truncatePlaces storeDiffering
-  run-one = step-checkpoints a (a .checkpoints) (16 + checkpointWidth k * (n / 1024))
+  run-one = step-checkpoints a (counted (a .checkpoints)) (16 + checkpointWidth k * (n / 1024))
 
   run-two : run 2 (truncatePlaces k n a) a ≡ record { slots = a .slots; rows = newRows; checkpoints = newCheckpoints }
   unfolding run truncatePlaces storeDiffering
   run-two =
-      ap (step (differing rowLength (a .rows) (16 + rowWidth k * rowsUpTo n (rowList k (a .rows))))) run-one
-      ∙ step-rows (record { slots = a .slots; rows = a .rows; checkpoints = newCheckpoints }) (a .rows) (16 + rowWidth k * rowsUpTo n (rowList k (a .rows)))
+      ap (step (differing rowLength (counted (a .rows)) (16 + rowWidth k * rowsUpTo n (rowList k (a .rows))))) run-one
+      ∙ step-rows (record { slots = a .slots; rows = a .rows; checkpoints = newCheckpoints }) (counted (a .rows)) (16 + rowWidth k * rowsUpTo n (rowList k (a .rows)))
 
   run-three : run 3 (truncatePlaces k n a) a ≡ record { slots = newSlots; rows = newRows; checkpoints = newCheckpoints }
   unfolding run truncatePlaces storeDiffering
   run-three =
-      ap (step (differing slotLength (a .slots) (16 + 2 * n))) run-two
-      ∙ step-slots (record { slots = a .slots; rows = newRows; checkpoints = newCheckpoints }) (a .slots) (16 + 2 * n)
+      ap (step (differing slotLength (counted (a .slots)) (16 + 2 * n))) run-two
+      ∙ step-slots (record { slots = a .slots; rows = newRows; checkpoints = newCheckpoints }) (counted (a .slots)) (16 + 2 * n)
 
   checkpoints-held : Holds (checkpointWidth k) newCheckpoints (take (n / 1024) (checkpointsOf k E)) (n / 1024)
   checkpoints-held =

@@ -39,33 +39,33 @@ run zero ps a = a
 run (suc s) [] a = a
 run (suc s) (p ∷ ps) a = run s ps (step p a)
 
--- open and truncation store only a length that differs from the counted one
-unfoldable pub differing : (ℕ → Place) → Bytes → ℕ → Place
-differing place xs v = cond (eqb v (counted xs)) keep (place v)
+-- a length is stored only where it differs from the old one
+unfoldable pub differing : (ℕ → Place) → ℕ → ℕ → Place
+differing place old v = cond (eqb v old) keep (place v)
 
--- the length of one area, to these ends
+-- open and truncation store only a length that differs from the counted one: the length of one area, to these ends
 abbrev pub slotsTo : Areas → Three ℕ → Place
-slotsTo a ends = differing slotLength (a .slots) (ends .slots)
+slotsTo a ends = differing slotLength (counted (a .slots)) (ends .slots)
 
 abbrev pub rowsTo : Areas → Three ℕ → Place
-rowsTo a ends = differing rowLength (a .rows) (ends .rows)
+rowsTo a ends = differing rowLength (counted (a .rows)) (ends .rows)
 
 abbrev pub checkpointsTo : Areas → Three ℕ → Place
-checkpointsTo a ends = differing checkpointLength (a .checkpoints) (ends .checkpoints)
+checkpointsTo a ends = differing checkpointLength (counted (a .checkpoints)) (ends .checkpoints)
 
 -- ---- truncation to n records
 
--- n slots, the rows numbered up to n, and n div 1,024 checkpoints
-abbrev pub endsAt : Kind → ℕ → Areas → Three ℕ
-endsAt k n a = record {
+-- n slots, those of the rows that are numbered up to n, and n div 1,024 checkpoints
+abbrev pub endsAt : Kind → ℕ → Bytes → Three ℕ
+endsAt k n rows = record {
   slots = 16 + 2 * n;
-  rows = 16 + rowWidth k * rowsUpTo n (rowList k (a .rows));
+  rows = 16 + rowWidth k * rowsUpTo n (rowList k rows);
   checkpoints = 16 + checkpointWidth k * (n / 1024);
 }
 
 -- truncation stores lengths of checkpoints, rows, slots
 unfoldable pub truncatePlaces : Kind → ℕ → Areas → List Place
-truncatePlaces k n a = checkpointsTo a (endsAt k n a) ∷ rowsTo a (endsAt k n a) ∷ slotsTo a (endsAt k n a) ∷ []
+truncatePlaces k n a = checkpointsTo a (endsAt k n (a .rows)) ∷ rowsTo a (endsAt k n (a .rows)) ∷ slotsTo a (endsAt k n (a .rows)) ∷ []
 
 -- ---- opening
 

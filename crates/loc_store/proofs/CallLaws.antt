@@ -1,20 +1,21 @@
 -- Create, open and truncate in the form in which the code meets them: number, value and areas at once.
 -- A refusal leaves the areas; an accepted call has made the stores of its first places.
-use Prim.Native.Nat.{ℕ, _≤_, _<_}
-use mathlib.Core.Path.{_≡_, refl, sym, ap, _∙_}
+use Prim.Native.Nat.{ℕ, _^_, _≤_, _<_}
+use mathlib.Core.Path.{_≡_, refl, sym, _∙_}
 use mathlib.Core.Bool.{Bool, true, false}
 use native.Mathlib.Omega.{arith}
 use lib.Dec.{ltb}
+use lib.ListN.{length}
 use borrow.Author.Tests.{lt-ltb, le-ltb}
 use Rattle.loc_leaf.specs.declared.Kind.{Kind}
 use Rattle.loc_leaf.specs.Bytes.{Bytes}
 use Rattle.loc_leaf.specs.declared.Answer.{Answer}
 use Rattle.loc_leaf.specs.Answers.{refuse, _orElse_, acceptedWith, refusedBy, answer}
-use Rattle.loc_leaf.specs.Area.{storeLength, fill}
+use Rattle.loc_leaf.specs.Area.{counted, storeLength, fill}
 use Rattle.loc_leaf.proofs.Refusals.{orElse-first}
-use Rattle.loc_calls.specs.Areas.{count, areas}
+use Rattle.loc_calls.specs.Areas.{each, count, areas}
 use Rattle.loc_calls.specs.Table.{opening, truncate, table}
-use Rattle.loc_calls.specs.Stores.{step, run, truncatePlaces, openRefusal}
+use Rattle.loc_calls.specs.Stores.{step, run, truncatePlaces, openPlaces, openRefusal}
 use Rattle.loc_calls.specs.Calls.{unlessRefused, tooSmall, unread, isOpening, refusal, places, value, call, createPlaces, create}
 use Rattle.loc_calls.specs.Promises.{Stored}
 use Rattle.loc_calls.proofs.Outcomes.{refused, accepted, refusal-after}
@@ -23,8 +24,9 @@ use Rattle.loc_store.specs.declared.Rules.{Rules}
 use Rattle.loc_store.specs.declared.Published.{Published}
 use Rattle.loc_store.specs.declared.Checked.{Checked}
 use Rattle.loc_store.specs.Areas.{Publishes, Checks}
-use Rattle.loc_store.specs.Plans.{lengthsFor, placeAt, lengthPlaces, rulesPlaces, rulesFor}
-use Rattle.loc_store.proofs.SettledLaws.{open-places}
+use Rattle.loc_store.specs.Plans.{lengthsOf, lengthsFor, lengthPlaces, rulesPlaces, rulesFor}
+use Rattle.loc_store.proofs.RuleLaws.{rule-le, open-places}
+use Rattle.loc_store.proofs.SettledLaws.{not-small, opened-ascends}
 
 -- ---- truncation
 
@@ -41,12 +43,12 @@ module _ (k : Kind) (s r c : Bytes) (w p : ℕ) (o : Checked) (e : Checks k (are
     truncate-past h y =
         rw y (refused k p (truncate w) (areas s r c) 14 (truncate-number ∙ rw (z, ← e .count, lt-ltb (o .count) w h) refl) (λ q. omega arith))
 
-    pub truncate-done : (t : Lengths) (s₁ r₁ c₁ : Bytes) (m : ℕ) → w ≤ o .count → t ≡ lengthsFor k w r → areas s₁ r₁ c₁ ≡ run p (lengthPlaces t (areas s r c)) (areas s r c)
+    pub truncate-done : (t : Lengths) (s₁ r₁ c₁ : Bytes) (m : ℕ) → w ≤ o .count → t ≡ lengthsFor k w r → areas s₁ r₁ c₁ ≡ run p (lengthPlaces (o .ends) t) (areas s r c)
         → m ≡ fill 2 s₁ → x ≡ acceptedWith m → Stored (call k p (truncate w) (areas s r c)) x (areas s₁ r₁ c₁)
-    unfolding places value count truncatePlaces lengthPlaces placeAt lengthsFor
+    unfolding places value count truncatePlaces lengthPlaces lengthsFor
     truncate-done t s₁ r₁ c₁ m h et q em y =
         rw (y, em) (accepted k p (truncate w) (areas s r c) (areas s₁ r₁ c₁) (truncate-number ∙ rw (z, ← e .count, le-ltb (o .count) w h) refl)
-        (q ∙ ap (λ (u : Lengths). run p (lengthPlaces u (areas s r c)) (areas s r c)) et))
+        (q ∙ rw (et, e .ends .slots, e .ends .rows, e .ends .checkpoints) refl))
 
 -- ---- opening
 
@@ -64,12 +66,19 @@ module _ (k : Kind) (s r c : Bytes) (p : ℕ) (b : Bool) (e : b ≡ tooSmall (ar
     pub open-refused : (number ≡ 0 → ⊥) → x ≡ refusedBy number → Stored (call k p opening (areas s r c)) x (areas s r c)
     open-refused g y = rw y (refused k p opening (areas s r c) number open-number g)
 
-    pub open-done : (t : Rules) (s₁ r₁ c₁ : Bytes) (m : ℕ) → number ≡ 0 → t ≡ rulesFor k (areas s r c) → areas s₁ r₁ c₁ ≡ run p (rulesPlaces t (areas s r c)) (areas s r c)
+    pub open-done : (z : number ≡ 0) → length s < 2 ^ 64 → length r < 2 ^ 64 → length c < 2 ^ 64 → (old : Lengths)
+        → (old .slots ≡ o .slots .end) × (old .rows ≡ o .rows .end) × (old .checkpoints ≡ o .checkpoints .end) → (t : Rules) (s₁ r₁ c₁ : Bytes) (m : ℕ)
+        → t ≡ rulesFor k (areas s r c) → areas s₁ r₁ c₁ ≡ run p (rulesPlaces old t) (areas s r c)
         → m ≡ fill 2 s₁ → x ≡ acceptedWith m → Stored (call k p opening (areas s r c)) x (areas s₁ r₁ c₁)
     unfolding places value count
-    open-done t s₁ r₁ c₁ m z et q em y =
-        rw (y, em) (accepted k p opening (areas s r c) (areas s₁ r₁ c₁) (open-number ∙ z)
-        (q ∙ ap (λ (u : Rules). run p (rulesPlaces u (areas s r c)) (areas s r c)) et ∙ rw (open-places k (areas s r c)) refl))
+    open-done z ls lr lc old eo t s₁ r₁ c₁ m et q em y =
+        rw (y, em) (accepted k p opening (areas s r c) (areas s₁ r₁ c₁) (open-number ∙ z) (q ∙ rw (ends-are, et, planned) refl))
+      where
+        ends-are : old ≡ lengthsOf (each counted (areas s r c))
+        ends-are = rw (eo .0 ∙ f .slots .end, eo .1 ∙ f .rows .end, eo .2 ∙ f .checkpoints .end) refl
+
+        planned : openPlaces k (areas s r c) ≡ rulesPlaces (lengthsOf (each counted (areas s r c))) (rulesFor k (areas s r c))
+        planned = open-places k s r c (not-small s r c b e h) ls lr (opened-ascends k s r c (sym (en s c f) ∙ z)) o f _ refl (rule-le (o .slots .count) (o .checkpoints .count)) lc
 
 -- ---- creation
 

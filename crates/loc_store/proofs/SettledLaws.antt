@@ -24,22 +24,22 @@ use Rattle.loc_leaf.proofs.Booleans.{is?, both-left, neither-left, neither-righ
 use Rattle.loc_leaf.proofs.AreaLaws.{counted-ge}
 use Rattle.loc_leaf.proofs.RowLaws.{rows-count}
 use Rattle.loc_leaf.proofs.RowPrefix.{up-to-all, up-to-fewer}
-use Rattle.loc_calls.specs.Areas.{Areas, areas, count}
+use Rattle.loc_calls.specs.Areas.{Areas, each, areas, count}
 use Rattle.loc_calls.specs.Stores.{Place, keep, slotLength, rowLength, checkpointLength, write, step, run, differing, truncatePlaces, nextRow, holdsNext, cutRule, ruledCount, ruled, openPlaces, ragged, openRefusal, stores, anyStores, settled}
 use Rattle.loc_calls.specs.Calls.{tooSmall, firstRefusal}
 use Rattle.loc_store.specs.declared.Lengths.{Lengths}
 use Rattle.loc_store.specs.declared.Published.{Published}
 use Rattle.loc_store.specs.Areas.{HoldHeaders, Publishes}
-use Rattle.loc_store.specs.Plans.{fitted, lengthsFor, placeAt, lengthPlaces, rulesPlaces, rulesFor, numberBefore, cutPast}
+use Rattle.loc_store.specs.Plans.{fitted, lengthsOf, lengthsFor, lengthPlaces, numberBefore, cutPast}
 use Rattle.loc_store.proofs.RuleLaws.{rows-last}
 
 -- ---- places that store nothing
 
-stores-differing : (place : ℕ → Place) (xs : Bytes) (v : ℕ) → stores (place v) ≡ true → stores (differing place xs v) ≡ not (eqb v (counted xs))
+stores-differing : (place : ℕ → Place) (old v : ℕ) → stores (place v) ≡ true → stores (differing place old v) ≡ not (eqb v old)
 unfolding differing stores
-stores-differing place xs v h = go (is? (eqb v (counted xs)))
+stores-differing place old v h = go (is? (eqb v old))
   where
-    go : (eqb v (counted xs) ≡ true) ⊎ (eqb v (counted xs) ≡ false) → stores (differing place xs v) ≡ not (eqb v (counted xs))
+    go : (eqb v old ≡ true) ⊎ (eqb v old ≡ false) → stores (differing place old v) ≡ not (eqb v old)
     go (inl t) = rw t refl
     go (inr t) = rw t h
 
@@ -48,24 +48,28 @@ either true b = refl
 either false true = refl
 either false false = refl
 
-module _ (t : Lengths) (s r c : Bytes) where
-  any-stores : anyStores (lengthPlaces t (areas s r c))
-      ≡ (not (eqb (t .checkpoints) (counted c)) || (not (eqb (t .rows) (counted r)) || (not (eqb (t .slots) (counted s)) || false)))
-  unfolding lengthPlaces placeAt anyStores stores
+module _ (old t : Lengths) where
+  any-stores : anyStores (lengthPlaces old t)
+      ≡ (not (eqb (t .checkpoints) (old .checkpoints)) || (not (eqb (t .rows) (old .rows)) || (not (eqb (t .slots) (old .slots)) || false)))
+  unfolding lengthPlaces anyStores stores
   any-stores =
-      rw (stores-differing checkpointLength c (t .checkpoints) refl, stores-differing rowLength r (t .rows) refl, stores-differing slotLength s (t .slots) refl) refl
+      rw (
+        stores-differing checkpointLength (old .checkpoints) (t .checkpoints) refl,
+        stores-differing rowLength (old .rows) (t .rows) refl,
+        stores-differing slotLength (old .slots) (t .slots) refl,
+      ) refl
 
-  stores-none : t .checkpoints ≡ counted c → t .rows ≡ counted r → t .slots ≡ counted s → anyStores (lengthPlaces t (areas s r c)) ≡ false
-  stores-none x y z = rw (any-stores, eq-eqb (t .checkpoints) (counted c) x, eq-eqb (t .rows) (counted r) y, eq-eqb (t .slots) (counted s) z) refl
+  stores-none : t .checkpoints ≡ old .checkpoints → t .rows ≡ old .rows → t .slots ≡ old .slots → anyStores (lengthPlaces old t) ≡ false
+  stores-none x y z = rw (any-stores, eq-eqb (t .checkpoints) (old .checkpoints) x, eq-eqb (t .rows) (old .rows) y, eq-eqb (t .slots) (old .slots) z) refl
 
-  stores-checkpoints : (t .checkpoints ≡ counted c → ⊥) → anyStores (lengthPlaces t (areas s r c)) ≡ true
-  stores-checkpoints h = rw (any-stores, ne-eqb (t .checkpoints) (counted c) h) refl
+  stores-checkpoints : (t .checkpoints ≡ old .checkpoints → ⊥) → anyStores (lengthPlaces old t) ≡ true
+  stores-checkpoints h = rw (any-stores, ne-eqb (t .checkpoints) (old .checkpoints) h) refl
 
-  stores-rows : (t .rows ≡ counted r → ⊥) → anyStores (lengthPlaces t (areas s r c)) ≡ true
-  stores-rows h = rw (any-stores, ne-eqb (t .rows) (counted r) h) (either (not (eqb (t .checkpoints) (counted c))) false)
+  stores-rows : (t .rows ≡ old .rows → ⊥) → anyStores (lengthPlaces old t) ≡ true
+  stores-rows h = rw (any-stores, ne-eqb (t .rows) (old .rows) h) (either (not (eqb (t .checkpoints) (old .checkpoints))) false)
 
-  stores-slots : (t .slots ≡ counted s → ⊥) → anyStores (lengthPlaces t (areas s r c)) ≡ true
-  stores-slots h = rw (any-stores, ne-eqb (t .slots) (counted s) h) (either (not (eqb (t .checkpoints) (counted c))) (not (eqb (t .rows) (counted r))))
+  stores-slots : (t .slots ≡ old .slots → ⊥) → anyStores (lengthPlaces old t) ≡ true
+  stores-slots h = rw (any-stores, ne-eqb (t .slots) (old .slots) h) (either (not (eqb (t .checkpoints) (old .checkpoints))) (not (eqb (t .rows) (old .rows))))
 
 any-append : (ps qs : List Place) → anyStores (ps ++ qs) ≡ (anyStores ps || anyStores qs)
 unfolding anyStores
@@ -93,33 +97,33 @@ run-none (suc s) (p ∷ ps) a h =
 
 -- ---- settled
 
-pub open-places : (k : Kind) (a : Areas) → openPlaces k a ≡ rulesPlaces (rulesFor k a) a
-unfolding openPlaces ruled truncatePlaces rulesPlaces rulesFor lengthPlaces placeAt lengthsFor
-open-places k a = refl
+-- the counted lengths
+abbrev counts : Areas → Lengths
+counts a = lengthsOf (each counted a)
 
-truncate-places : (k : Kind) (n : ℕ) (a : Areas) → truncatePlaces k n a ≡ lengthPlaces (lengthsFor k n (a .rows)) a
-unfolding truncatePlaces lengthPlaces placeAt lengthsFor
+truncate-places : (k : Kind) (n : ℕ) (a : Areas) → truncatePlaces k n a ≡ lengthPlaces (counts a) (lengthsFor k n (a .rows))
+unfolding truncatePlaces lengthPlaces lengthsFor
 truncate-places k n a = refl
 
 module _ (k : Kind) (a : Areas) (z : openRefusal k a ≡ 0) (n : ℕ) (en : ruledCount k a ≡ n) where
-  ruled-places : truncatePlaces k (ruledCount k a) a ≡ lengthPlaces (lengthsFor k n (a .rows)) a
+  ruled-places : truncatePlaces k (ruledCount k a) a ≡ lengthPlaces (counts a) (lengthsFor k n (a .rows))
   ruled-places = rw en (truncate-places k n a)
 
-  parts : settled k a ≡ not (anyStores (lengthPlaces (lengthsFor k n (a .rows)) a) || anyStores (truncatePlaces k (cutRule k (ruled k a)) (ruled k a)))
+  parts : settled k a ≡ not (anyStores (lengthPlaces (counts a) (lengthsFor k n (a .rows))) || anyStores (truncatePlaces k (cutRule k (ruled k a)) (ruled k a)))
   unfolding settled openPlaces
-  parts = rw (z, ruled-places, any-append (lengthPlaces (lengthsFor k n (a .rows)) a) (truncatePlaces k (cutRule k (ruled k a)) (ruled k a))) refl
+  parts = rw (z, ruled-places, any-append (lengthPlaces (counts a) (lengthsFor k n (a .rows))) (truncatePlaces k (cutRule k (ruled k a)) (ruled k a))) refl
 
-  unsettled : anyStores (lengthPlaces (lengthsFor k n (a .rows)) a) ≡ true → settled k a ≡ false
+  unsettled : anyStores (lengthPlaces (counts a) (lengthsFor k n (a .rows))) ≡ true → settled k a ≡ false
   unsettled h = parts ∙ rw h refl
 
   -- where the checkpoint rule stores nothing, the cut rule meets the areas as they are
-  settled-cut : anyStores (lengthPlaces (lengthsFor k n (a .rows)) a) ≡ false
-      → settled k a ≡ not (anyStores (lengthPlaces (lengthsFor k (cutRule k a) (a .rows)) a))
+  settled-cut : anyStores (lengthPlaces (counts a) (lengthsFor k n (a .rows))) ≡ false
+      → settled k a ≡ not (anyStores (lengthPlaces (counts a) (lengthsFor k (cutRule k a) (a .rows))))
   unfolding ruled
   settled-cut h = parts ∙ rw (h, same, truncate-places k (cutRule k a) a) refl
     where
       same : ruled k a ≡ a
-      same = rw ruled-places (run-none 3 (lengthPlaces (lengthsFor k n (a .rows)) a) a h)
+      same = rw ruled-places (run-none 3 (lengthPlaces (counts a) (lengthsFor k n (a .rows))) a h)
 
 -- ---- what an accepted call knows
 
@@ -219,9 +223,9 @@ module _ (k : Kind) (s r c : Bytes) (g : HoldHeaders (areas s r c)) (z : openRef
   unfolding ruledCount count checkpointRule
   some-kept h = rw (lt-ltb (fill (checkpointWidth k) c) (n / 1024) h) refl
 
-  slots-differ : (m : ℕ) → (m ≡ n → ⊥) → anyStores (lengthPlaces (lengthsFor k m r) a) ≡ true
+  slots-differ : (m : ℕ) → (m ≡ n → ⊥) → anyStores (lengthPlaces (counts a) (lengthsFor k m r)) ≡ true
   unfolding lengthsFor
-  slots-differ m h = stores-slots (lengthsFor k m r) s r c (λ e. h (omega (arith, whole-slots)))
+  slots-differ m h = stores-slots (counts a) (lengthsFor k m r) (λ e. h (omega (arith, whole-slots)))
 
   -- a checkpoint is lacking, or one is too many
   windows-differ : (fill (checkpointWidth k) c ≡ n / 1024 → ⊥) → settled k a ≡ false
@@ -231,7 +235,7 @@ module _ (k : Kind) (s r c : Bytes) (g : HoldHeaders (areas s r c)) (z : openRef
       go : Dec (n / 1024 ≤ fill (checkpointWidth k) c) → settled k a ≡ false
       go (yes x) =
           unsettled k a z n (all-kept x)
-          (stores-checkpoints (lengthsFor k n r) s r c (λ e. h (sym (checkpoints-same k (n / 1024) (fill (checkpointWidth k) c) (e ∙ whole-checkpoints)))))
+          (stores-checkpoints (counts a) (lengthsFor k n r) (λ e. h (sym (checkpoints-same k (n / 1024) (fill (checkpointWidth k) c) (e ∙ whole-checkpoints)))))
       go (no x) =
           unsettled k a z ((fill (checkpointWidth k) c + 1) * 1024 - 1) (some-kept (omega arith))
           (slots-differ ((fill (checkpointWidth k) c + 1) * 1024 - 1) (λ e. omega arith))
@@ -251,14 +255,14 @@ module _ (k : Kind) (s r c : Bytes) (g : HoldHeaders (areas s r c)) (z : openRef
     unfolding lengthsFor
     rows-above x =
         unsettled k a z n keeps
-        (stores-rows (lengthsFor k n r) s r c
+        (stores-rows (counts a) (lengthsFor k n r)
         (λ e. omega (arith, rows-same k (rowsUpTo n (rowList k r)) (fill (rowWidth k) r) (e ∙ whole-rows), up-to-fewer n 0 (rowList k r) (omega arith) x, rows-count k r)))
 
     module _ (x : lastNumber 0 (rowList k r) ≤ n) where
-      none-differs : anyStores (lengthPlaces (lengthsFor k n r) a) ≡ false
+      none-differs : anyStores (lengthPlaces (counts a) (lengthsFor k n r)) ≡ false
       unfolding lengthsFor
       none-differs =
-          stores-none (lengthsFor k n r) s r c
+          stores-none (counts a) (lengthsFor k n r)
           (ap (λ (i : ℕ). 16 + checkpointWidth k * i) (sym h) ∙ sym whole-checkpoints)
           (ap (λ (i : ℕ). 16 + rowWidth k * i) (up-to-all n 0 (rowList k r) (opened-ascends k s r c z) x ∙ rows-count k r) ∙ sym whole-rows)
           (sym whole-slots)
@@ -271,7 +275,7 @@ module _ (k : Kind) (s r c : Bytes) (g : HoldHeaders (areas s r c)) (z : openRef
       cut-decides : (m : ℕ) → m ≡ cutPast k s r n (counted r) → settled k a ≡ eqb m n
       cut-decides m e = settled-cut k a z n keeps none-differs ∙ rw (cut-is, ← e) (go (is? (eqb m n)))
         where
-          go : (eqb m n ≡ true) ⊎ (eqb m n ≡ false) → not (anyStores (lengthPlaces (lengthsFor k m r) a)) ≡ eqb m n
+          go : (eqb m n ≡ true) ⊎ (eqb m n ≡ false) → not (anyStores (lengthPlaces (counts a) (lengthsFor k m r))) ≡ eqb m n
           go (inl t) = rw (t, eqb-true m n t, none-differs) refl
           go (inr t) = rw (t, slots-differ m (eqb-false m n t)) refl
 

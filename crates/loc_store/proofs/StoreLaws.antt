@@ -1,128 +1,107 @@
 -- The stores of a truncation and of an opening, place by place, in the form in which the code meets them.
--- A truncation's places touch each area once, so a place may be decided when its turn comes.
+-- Places are decided before anything is stored, so a run over them is a step at a time.
 use Prim.Native.Nat.{ℕ, zero, suc, _+_, _-_, _≤_, _<_, min}
 use mathlib.Core.Path.{_≡_, refl, sym, ap, _∙_}
-use mathlib.Core.Logic.{_⊎_, inl, inr}
-use mathlib.Core.Bool.{true, false}
+use mathlib.Core.Bool.{Bool, true, false, cond}
 use mathlib.Core.List.{List, [], _∷_}
+use native.Mathlib.Numerals.{add-one}
 use native.Mathlib.Omega.{arith}
+use native.Mathlib.Decide.{decLe}
 use lib.Dec.{eqb}
+use lib.ListN.{length, getD}
 use borrow.Author.Tests.{eq-eqb, ne-eqb}
 use Rattle.loc_leaf.specs.Bytes.{Bytes}
-use Rattle.loc_leaf.specs.Area.{counted, storeLength}
-use Rattle.loc_leaf.proofs.Booleans.{is?}
+use Rattle.loc_leaf.specs.Area.{storeLength}
 use Rattle.loc_calls.specs.Areas.{Areas, areas}
-use Rattle.loc_calls.specs.Stores.{Place, slotLength, rowLength, checkpointLength, step, run, differing}
-use Rattle.loc_calls.proofs.Settled.{run-all}
+use Rattle.loc_calls.specs.Stores.{Place, keep, slotLength, rowLength, checkpointLength, step, run, differing}
+use Rattle.loc_calls.proofs.Settled.{run-next, run-all}
 use Rattle.loc_store.specs.declared.Lengths.{Lengths}
 use Rattle.loc_store.specs.declared.Rules.{Rules}
-use Rattle.loc_store.specs.Plans.{fitted, placeAt, lengthPlaces, rulesPlaces}
+use Rattle.loc_store.specs.Plans.{fitted, lengthPlaces, rulesPlaces}
 
 -- ---- one length
 
-module _ (v : ℕ) (xs : Bytes) (end : ℕ) (e : end ≡ counted xs) where
-  pub fitted-same : end ≡ v → xs ≡ fitted v xs
+module _ (xs : Bytes) (old new : ℕ) where
+  pub fitted-same : new ≡ old → xs ≡ fitted old new xs
   unfolding fitted
-  fitted-same h = rw (← e, eq-eqb v end (sym h)) refl
+  fitted-same h = rw (eq-eqb new old h) refl
 
-  pub fitted-other : (end ≡ v → ⊥) → (ys : Bytes) → ys ≡ storeLength v xs → ys ≡ fitted v xs
+  pub fitted-other : (ys : Bytes) → (new ≡ old → ⊥) → ys ≡ storeLength new xs → ys ≡ fitted old new xs
   unfolding fitted
-  fitted-other h ys q = rw (← e, ne-eqb v end (λ z. h (sym z))) q
+  fitted-other ys h q = rw (ne-eqb new old h) q
 
--- ---- one place
+-- a place that stores a length that differs, in whichever area
+pub step-differing : (place : ℕ → Place) (inside : Bytes → Areas) (xs : Bytes) → ((v : ℕ) → step (place v) (inside xs) ≡ inside (storeLength v xs))
+    → (old new : ℕ) → step (differing place old new) (inside xs) ≡ inside (fitted old new xs)
+unfolding step differing fitted
+step-differing place inside xs h old new = go (eqb new old)
+  where
+    go : (b : Bool) → step (cond b keep (place new)) (inside xs) ≡ inside (cond b xs (storeLength new xs))
+    go true = refl
+    go false = h new
 
-module _ (v : ℕ) (a : Areas) where
-  step-checkpoints : step (differing checkpointLength (a .checkpoints) v) a ≡ areas (a .slots) (a .rows) (fitted v (a .checkpoints))
-  unfolding step differing fitted
-  step-checkpoints = go (is? (eqb v (counted (a .checkpoints))))
-    where
-      go : (eqb v (counted (a .checkpoints)) ≡ true) ⊎ (eqb v (counted (a .checkpoints)) ≡ false)
-          → step (differing checkpointLength (a .checkpoints) v) a ≡ areas (a .slots) (a .rows) (fitted v (a .checkpoints))
-      go (inl t) = rw t refl
-      go (inr t) = rw t refl
+module _ (s r c : Bytes) (old new : ℕ) where
+  pub step-slots : step (differing slotLength old new) (areas s r c) ≡ areas (fitted old new s) r c
+  unfolding step
+  step-slots = step-differing slotLength (λ x. areas x r c) s (λ v. refl) old new
 
-  step-rows : step (differing rowLength (a .rows) v) a ≡ areas (a .slots) (fitted v (a .rows)) (a .checkpoints)
-  unfolding step differing fitted
-  step-rows = go (is? (eqb v (counted (a .rows))))
-    where
-      go : (eqb v (counted (a .rows)) ≡ true) ⊎ (eqb v (counted (a .rows)) ≡ false)
-          → step (differing rowLength (a .rows) v) a ≡ areas (a .slots) (fitted v (a .rows)) (a .checkpoints)
-      go (inl t) = rw t refl
-      go (inr t) = rw t refl
+  pub step-rows : step (differing rowLength old new) (areas s r c) ≡ areas s (fitted old new r) c
+  unfolding step
+  step-rows = step-differing rowLength (λ x. areas s x c) r (λ v. refl) old new
 
-  step-slots : step (differing slotLength (a .slots) v) a ≡ areas (fitted v (a .slots)) (a .rows) (a .checkpoints)
-  unfolding step differing fitted
-  step-slots = go (is? (eqb v (counted (a .slots))))
-    where
-      go : (eqb v (counted (a .slots)) ≡ true) ⊎ (eqb v (counted (a .slots)) ≡ false)
-          → step (differing slotLength (a .slots) v) a ≡ areas (fitted v (a .slots)) (a .rows) (a .checkpoints)
-      go (inl t) = rw t refl
-      go (inr t) = rw t refl
-
-module _ (t : Lengths) (p : ℕ) (s r c n : Bytes) where
-  pub store-checkpoints : p ≡ 0 → n ≡ fitted (t .checkpoints) c → areas s r n ≡ step (placeAt t p (areas s r c)) (areas s r c)
-  unfolding placeAt
-  store-checkpoints e q = rw (e, q) (sym (step-checkpoints (t .checkpoints) (areas s r c)))
-
-  pub store-rows : p ≡ 1 → n ≡ fitted (t .rows) r → areas s n c ≡ step (placeAt t p (areas s r c)) (areas s r c)
-  unfolding placeAt
-  store-rows e q = rw (e, q) (sym (step-rows (t .rows) (areas s r c)))
-
-pub store-slots : (t : Lengths) (p : ℕ) (s r c n : Bytes) → (p ≡ 0 → ⊥) → (p ≡ 1 → ⊥) → n ≡ fitted (t .slots) s
-    → areas n r c ≡ step (placeAt t p (areas s r c)) (areas s r c)
-unfolding placeAt
-store-slots t zero s r c n x y q = absurd (x refl)
-store-slots t (suc zero) s r c n x y q = absurd (y refl)
-store-slots t (suc (suc i)) s r c n x y q = rw q (sym (step-slots (t .slots) (areas s r c)))
+  pub step-checkpoints : step (differing checkpointLength old new) (areas s r c) ≡ areas s r (fitted old new c)
+  unfolding step
+  step-checkpoints = step-differing checkpointLength (λ x. areas s r x) c (λ v. refl) old new
 
 -- ---- the places of a truncation
 
-module _ (t : Lengths) (a : Areas) where
-  -- the areas after the first place, and after the second
-  abbrev one : Areas
-  one = areas (a .slots) (a .rows) (fitted (t .checkpoints) (a .checkpoints))
-
-  abbrev two : Areas
-  two = areas (a .slots) (fitted (t .rows) (a .rows)) (fitted (t .checkpoints) (a .checkpoints))
-
-  run-one : run 1 (lengthPlaces t a) a ≡ one
-  unfolding run lengthPlaces placeAt
-  run-one = step-checkpoints (t .checkpoints) a
-
-  run-two : run 2 (lengthPlaces t a) a ≡ two
-  unfolding run lengthPlaces placeAt
-  run-two = ap (step (placeAt t 1 a)) (step-checkpoints (t .checkpoints) a) ∙ step-rows (t .rows) one
-
-  pub run-three : run 3 (lengthPlaces t a) a ≡ areas (fitted (t .slots) (a .slots)) (fitted (t .rows) (a .rows)) (fitted (t .checkpoints) (a .checkpoints))
-  unfolding run lengthPlaces placeAt
-  run-three = ap (step (placeAt t 2 a)) run-two ∙ step-slots (t .slots) two
-
-  turn : (i : ℕ) (b d : Areas) → i < 3 → b ≡ run i (lengthPlaces t a) a → d ≡ step (placeAt t i b) b → d ≡ run (i + 1) (lengthPlaces t a) a
-  unfolding run lengthPlaces placeAt
-  turn zero b d h e q = q ∙ ap (λ (x : Areas). step (placeAt t 0 x) x) e
-  turn (suc zero) b d h e q = q ∙ ap (λ (x : Areas). step (placeAt t 1 x) x) (e ∙ run-one) ∙ ap (step (placeAt t 1 a)) (sym run-one)
-  turn (suc (suc zero)) b d h e q = q ∙ ap (λ (x : Areas). step (placeAt t 2 x) x) (e ∙ run-two) ∙ ap (step (placeAt t 2 a)) (sym run-two)
-  turn (suc (suc (suc i))) b d h e q = absurd (omega arith)
-
-  pub run-next : (s end i : ℕ) (b d : Areas) → end ≡ min s 3 → i < end → b ≡ run i (lengthPlaces t a) a → d ≡ step (placeAt t i b) b
-      → d ≡ run (i + 1) (lengthPlaces t a) a
-  run-next s end i b d m h e q = turn i b d (omega arith) e q
-
-  run-full : (s : ℕ) → 3 ≤ s → run s (lengthPlaces t a) a ≡ run 3 (lengthPlaces t a) a
+module _ (old t : Lengths) (p : ℕ) (s r c : Bytes) where
+  pub store-checkpoints : (x : Bytes) → p ≡ 0 → x ≡ fitted (old .checkpoints) (t .checkpoints) c → areas s r x ≡ step (getD (lengthPlaces old t) p keep) (areas s r c)
   unfolding lengthPlaces
-  run-full s h = run-all s (lengthPlaces t a) a h
+  store-checkpoints x e q = rw (e, q) (sym (step-checkpoints s r c (old .checkpoints) (t .checkpoints)))
 
-  -- a larger number of places is all of them
-  run-min : (s : ℕ) → run (min s 3) (lengthPlaces t a) a ≡ run s (lengthPlaces t a) a
-  run-min zero = refl
-  run-min (suc zero) = refl
-  run-min (suc (suc zero)) = refl
-  run-min (suc (suc (suc n))) =
-      let z : min (suc (suc (suc n))) 3 ≡ 3 = omega arith in
-      rw z (sym (run-full (suc (suc (suc n))) (omega arith)))
+  pub store-rows : (x : Bytes) → p ≡ 1 → x ≡ fitted (old .rows) (t .rows) r → areas s x c ≡ step (getD (lengthPlaces old t) p keep) (areas s r c)
+  unfolding lengthPlaces
+  store-rows x e q = rw (e, q) (sym (step-rows s r c (old .rows) (t .rows)))
 
-  pub run-end : (s end i : ℕ) (b : Areas) → end ≡ min s 3 → i ≤ end → end ≤ i → b ≡ run i (lengthPlaces t a) a → b ≡ run s (lengthPlaces t a) a
-  run-end s end i b m h g e = let z : i ≡ min s 3 = omega arith in rw z at e ∙ run-min s
+  pub store-slots : (x : Bytes) → p ≡ 2 → x ≡ fitted (old .slots) (t .slots) s → areas x r c ≡ step (getD (lengthPlaces old t) p keep) (areas s r c)
+  unfolding lengthPlaces
+  store-slots x e q = rw (e, q) (sym (step-slots s r c (old .slots) (t .slots)))
+
+  pub store-none : (p ≡ 0 → ⊥) → (p ≡ 1 → ⊥) → (p ≡ 2 → ⊥) → areas s r c ≡ step (getD (lengthPlaces old t) p keep) (areas s r c)
+  unfolding lengthPlaces step
+  store-none h₀ h₁ h₂ = go p h₀ h₁ h₂
+    where
+      go : (q : ℕ) → (q ≡ 0 → ⊥) → (q ≡ 1 → ⊥) → (q ≡ 2 → ⊥) → areas s r c ≡ step (getD (lengthPlaces old t) q keep) (areas s r c)
+      go zero a b d = absurd (a refl)
+      go (suc zero) a b d = absurd (b refl)
+      go (suc (suc zero)) a b d = absurd (d refl)
+      go (suc (suc (suc q))) a b d = refl
+
+-- ---- runs
+
+-- one place more
+pub run-turn : (ps : List Place) (i : ℕ) (a b d : Areas) → b ≡ run i ps a → d ≡ step (getD ps i keep) b → d ≡ run (i + 1) ps a
+run-turn ps i a b d inv q = q ∙ rw (inv, add-one i) (sym (run-next i ps a))
+
+-- a larger number of places is all of them
+pub run-done : (ps : List Place) (n : ℕ) → length ps ≡ n → (s i end : ℕ) (a b : Areas) → b ≡ run i ps a → end ≡ min s n → i ≤ end → end ≤ i → b ≡ run s ps a
+run-done ps n e s i end a b inv m h g = go (decLe n s)
+  where
+    go : Dec (n ≤ s) → b ≡ run s ps a
+    go (yes x) = let q : i ≡ length ps = omega arith in inv ∙ rw q (sym (run-all s ps a (omega arith)))
+    go (no x) = let q : i ≡ s = omega arith in inv ∙ rw q refl
+
+pub run-end : (old t : Lengths) (s i end : ℕ) (a b : Areas) → b ≡ run i (lengthPlaces old t) a → end ≡ min s 3 → i ≤ end → end ≤ i → b ≡ run s (lengthPlaces old t) a
+unfolding lengthPlaces
+run-end old t = run-done (lengthPlaces old t) 3 refl
+
+pub run-three : (old t : Lengths) (s r c : Bytes)
+    → run 3 (lengthPlaces old t) (areas s r c) ≡ areas (fitted (old .slots) (t .slots) s) (fitted (old .rows) (t .rows) r) (fitted (old .checkpoints) (t .checkpoints) c)
+unfolding run lengthPlaces
+run-three old t s r c =
+    rw (step-checkpoints s r c (old .checkpoints) (t .checkpoints), step-rows s r (fitted (old .checkpoints) (t .checkpoints) c) (old .rows) (t .rows))
+    (step-slots s (fitted (old .rows) (t .rows) r) (fitted (old .checkpoints) (t .checkpoints) c) (old .slots) (t .slots))
 
 -- ---- the places of an opening
 
@@ -134,19 +113,14 @@ run-both (suc (suc zero)) p q r ps a = refl
 run-both (suc (suc (suc zero))) p q r ps a = refl
 run-both (suc (suc (suc (suc n)))) p q r ps a = let z : suc (suc (suc (suc n))) - 3 ≡ suc n = omega arith in rw z refl
 
-module _ (p : Rules) (a b : Areas) (s : ℕ) (e : b ≡ run s (lengthPlaces (p .checkpoint) a) a) where
-  whole : run s (rulesPlaces p a) a ≡ run (s - 3) (lengthPlaces (p .cut) (run 3 (lengthPlaces (p .checkpoint) a) a)) b
+module _ (old : Lengths) (p : Rules) (a b : Areas) (s : ℕ) (e : b ≡ run s (lengthPlaces old (p .checkpoint)) a) where
+  whole : run s (rulesPlaces old p) a ≡ run (s - 3) (lengthPlaces (p .checkpoint) (p .cut)) b
   unfolding rulesPlaces lengthPlaces
-  whole =
-      run-both s (placeAt (p .checkpoint) 0 a) (placeAt (p .checkpoint) 1 a) (placeAt (p .checkpoint) 2 a)
-      (lengthPlaces (p .cut) (run 3 (lengthPlaces (p .checkpoint) a) a)) a
-      ∙ ap (run (s - 3) (lengthPlaces (p .cut) (run 3 (lengthPlaces (p .checkpoint) a) a))) (sym e)
+  whole = run-both s _ _ _ (lengthPlaces (p .checkpoint) (p .cut)) a ∙ ap (run (s - 3) (lengthPlaces (p .checkpoint) (p .cut))) (sym e)
 
-  pub rules-first : s ≤ 3 → b ≡ run s (rulesPlaces p a) a
+  pub rules-first : s ≤ 3 → b ≡ run s (rulesPlaces old p) a
   unfolding run
   rules-first h = let z : s - 3 ≡ 0 = omega arith in sym (whole ∙ rw z refl)
 
-  pub rules-second : (d : Areas) → 3 < s → d ≡ run (s - 3) (lengthPlaces (p .cut) b) b → d ≡ run s (rulesPlaces p a) a
-  rules-second d h q =
-      let three : b ≡ run 3 (lengthPlaces (p .checkpoint) a) a = e ∙ run-full (p .checkpoint) a s (omega arith) in
-      q ∙ ap (λ (x : Areas). run (s - 3) (lengthPlaces (p .cut) x) b) three ∙ sym whole
+  pub rules-second : (d : Areas) → 3 < s → d ≡ run (s - 3) (lengthPlaces (p .checkpoint) (p .cut)) b → d ≡ run s (rulesPlaces old p) a
+  rules-second d h q = q ∙ sym whole

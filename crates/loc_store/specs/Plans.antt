@@ -1,42 +1,43 @@
 -- What is decided before anything is stored: the lengths of a truncation, and those of an opening's two rules.
 -- Of an inner crate: proofs/SettledLaws and proofs/CallLaws tie them to the places of loc_calls.
-use Prim.Native.Nat.{ℕ, zero, suc, _+_, _-_, _*_, _/_}
+use Prim.Native.Nat.{ℕ, _+_, _-_}
 use mathlib.Core.Bool.{cond}
 use mathlib.Core.List.{List, [], _∷_, _++_}
 use lib.Dec.{leb, ltb, eqb}
 use lib.ListN.{length, take, drop}
 use Rattle.loc_leaf.specs.declared.Kind.{Kind}
 use Rattle.loc_leaf.specs.Bytes.{Bytes, numberAt}
-use Rattle.loc_leaf.specs.Area.{counted, storeLength}
-use Rattle.loc_leaf.specs.Kind.{rowWidth, checkpointWidth}
-use Rattle.loc_leaf.specs.Rows.{rowList, rowsUpTo}
+use Rattle.loc_leaf.specs.Area.{storeLength}
+use Rattle.loc_leaf.specs.Kind.{rowWidth}
 use Rattle.loc_leaf.specs.Cut.{cutFor}
-use Rattle.loc_calls.specs.Areas.{Areas}
-use Rattle.loc_calls.specs.Stores.{Place, slotLength, rowLength, checkpointLength, differing, run, cutRule, ruledCount, ruled}
+use Rattle.loc_calls.specs.Areas.{Three, Areas}
+use Rattle.loc_calls.specs.Stores.{Place, slotLength, rowLength, checkpointLength, differing, endsAt, cutRule, ruledCount, ruled}
 use Rattle.loc_store.specs.declared.Lengths.{Lengths}
 use Rattle.loc_store.specs.declared.Rules.{Rules}
 
--- an area with a length that is stored only where it differs from the counted one
-unfoldable pub fitted : ℕ → Bytes → Bytes
-fitted v xs = cond (eqb v (counted xs)) xs (storeLength v xs)
+-- an area with a length that is stored only where it differs from the old one
+unfoldable pub fitted : ℕ → ℕ → Bytes → Bytes
+fitted old v xs = cond (eqb v old) xs (storeLength v xs)
+
+-- three numbers as the code has them
+abbrev pub lengthsOf : Three ℕ → Lengths
+lengthsOf t = record { slots = t .slots; rows = t .rows; checkpoints = t .checkpoints }
 
 -- the lengths of areas with the first n records, where the rows are these
 unfoldable pub lengthsFor : Kind → ℕ → Bytes → Lengths
-lengthsFor k n rows =
-    record { slots = 16 + 2 * n; rows = 16 + rowWidth k * rowsUpTo n (rowList k rows); checkpoints = 16 + checkpointWidth k * (n / 1024) }
+lengthsFor k n rows = lengthsOf (endsAt k n rows)
 
--- a truncation's place: checkpoints, rows, slots
-unfoldable pub placeAt : Lengths → ℕ → Areas → Place
-placeAt t zero a = differing checkpointLength (a .checkpoints) (t .checkpoints)
-placeAt t (suc zero) a = differing rowLength (a .rows) (t .rows)
-placeAt t (suc (suc i)) a = differing slotLength (a .slots) (t .slots)
+-- a truncation's places, from the old lengths to these: checkpoints, rows, slots
+unfoldable pub lengthPlaces : Lengths → Lengths → List Place
+lengthPlaces old t =
+    differing checkpointLength (old .checkpoints) (t .checkpoints)
+    ∷ differing rowLength (old .rows) (t .rows)
+    ∷ differing slotLength (old .slots) (t .slots)
+    ∷ []
 
-unfoldable pub lengthPlaces : Lengths → Areas → List Place
-lengthPlaces t a = placeAt t 0 a ∷ placeAt t 1 a ∷ placeAt t 2 a ∷ []
-
--- an opening's places: those of the checkpoint rule, then, on what that leaves, those of the cut rule
-unfoldable pub rulesPlaces : Rules → Areas → List Place
-rulesPlaces p a = lengthPlaces (p .checkpoint) a ++ lengthPlaces (p .cut) (run 3 (lengthPlaces (p .checkpoint) a) a)
+-- an opening's places: those of the checkpoint rule, then, from what that leaves, those of the cut rule
+unfoldable pub rulesPlaces : Lengths → Rules → List Place
+rulesPlaces old p = lengthPlaces old (p .checkpoint) ++ lengthPlaces (p .checkpoint) (p .cut)
 
 unfoldable pub rulesFor : Kind → Areas → Rules
 rulesFor k a =

@@ -52,6 +52,17 @@ pub fn published_areas(kind: Kind, slots: &[u8], rows: &[u8], checkpoints: &[u8]
     }
 }
 
+// Up to where the areas publish.
+pub fn ends(p: Published) -> Lengths
+    ensures { λ r. ⌜ (r .slots ≡ p .slots .end) × (r .rows ≡ p .rows .end) × (r .checkpoints ≡ p .checkpoints .end) ⌝ }
+{
+    Lengths {
+        slots: p.slots.end as u64,
+        rows: p.rows.end as u64,
+        checkpoints: p.checkpoints.end as u64,
+    }
+}
+
 // 2 to 5 in order, 0 where opening accepts.
 pub fn open_refusal(kind: Kind, rows: &[u8], p: Published) -> u64
     ensures { λ r. ⌜ ((s c : Bytes) → Publishes kind (areas s (now (rows .entry)) c) p → r ≡ openRefusal kind (areas s (now (rows .entry)) c)) ⌝ }
@@ -106,15 +117,10 @@ pub fn check_areas(kind: Kind, slots: &[u8], rows: &[u8], checkpoints: &[u8]) ->
 {
     let p = published_areas(kind, slots, rows, checkpoints);
     let number = call_refusal(kind, slots, rows, checkpoints, p);
-    let ends = Lengths {
-        slots: p.slots.end as u64,
-        rows: p.rows.end as u64,
-        checkpoints: p.checkpoints.end as u64,
-    };
     Checked {
         number,
         count: p.slots.count as u64,
         row_count: p.rows.count,
-        ends,
+        ends: ends(p),
     }
 }

@@ -4,6 +4,7 @@ ghost use Rattle.loc_calls.specs.Table.{opening};
 ghost use Rattle.loc_calls.specs.Calls.{call};
 ghost use Rattle.loc_calls.specs.Promises.{Stored};
 ghost use Rattle.loc_calls.specs.Areas.{areas};
+use crate::check::ends;
 use crate::check::open_refusal;
 use crate::check::published_areas;
 use crate::check::too_small;
@@ -37,7 +38,7 @@ pub fn open_run(
         return refused(number);
     }
     let plan = rules(kind, slots, rows, checkpoints, p);
-    store_rules(slots, rows, checkpoints, plan, places);
+    store_rules(slots, rows, checkpoints, ends(p), plan, places);
     let left = published(slots, 2).count as u64;
     accepted(left)
 }

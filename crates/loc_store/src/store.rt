@@ -1,22 +1,21 @@
 // The stores of a truncation and of an opening: a step for one place, and runs of it over the first places.
-// Of an inner crate; nothing is decided here but whether a length differs from the counted one.
+// Of an inner crate; nothing is decided here but whether a length differs from the old one.
 ghost use mathlib.Core.Path.{_≡_};
-ghost use Prim.Native.Nat.{min};
-ghost use Rattle.loc_calls.specs.Stores.{step, run};
+ghost use lib.ListN.{getD};
+ghost use Rattle.loc_calls.specs.Stores.{keep, step, run};
 ghost use Rattle.loc_calls.specs.Areas.{areas};
-ghost use Rattle.loc_store.specs.Plans.{fitted, placeAt, lengthPlaces, rulesPlaces};
+ghost use Rattle.loc_store.specs.Plans.{fitted, lengthPlaces, rulesPlaces};
 use crate::Lengths;
 use crate::Rules;
-use loc_leaf::file::logical_len;
+use loc_leaf::delta_loc::lesser;
 use loc_leaf::file::store_len;
 
-// Stores a length that differs from the counted one.
-fn fit_len(area: &mut [u8], len: u64)
-    ensures { λ _. ⌜ now (area .exit) ≡ fitted len (now (area .entry)) ⌝ }
+// Stores a length that differs from the old one.
+pub fn fit_len(area: &mut [u8], old: u64, new: u64)
+    ensures { λ _. ⌜ now (area .exit) ≡ fitted old new (now (area .entry)) ⌝ }
 {
-    let end = logical_len(area) as u64;
-    if end != len {
-        store_len(area, len);
+    if new != old {
+        store_len(area, new);
     }
 }
 
@@ -25,29 +24,24 @@ fn store_place(
     slots: &mut [u8],
     rows: &mut [u8],
     checkpoints: &mut [u8],
-    lengths: Lengths,
+    old: Lengths,
+    new: Lengths,
     place: u64,
 )
     ensures { λ _. ⌜ areas (now (slots .exit)) (now (rows .exit)) (now (checkpoints .exit))
-        ≡ step (placeAt lengths place (areas (now (slots .entry)) (now (rows .entry)) (now (checkpoints .entry))))
-        (areas (now (slots .entry)) (now (rows .entry)) (now (checkpoints .entry))) ⌝ }
+        ≡ step (getD (lengthPlaces old new) place keep) (areas (now (slots .entry)) (now (rows .entry)) (now (checkpoints .entry))) ⌝ }
 {
     if place == 0 {
-        fit_len(checkpoints, lengths.checkpoints);
+        fit_len(checkpoints, old.checkpoints, new.checkpoints);
         return;
     }
     if place == 1 {
-        fit_len(rows, lengths.rows);
+        fit_len(rows, old.rows, new.rows);
         return;
     }
-    fit_len(slots, lengths.slots);
-}
-
-// How many of a truncation's three places are among the first so many.
-fn place_count(places: u64) -> u64
-    ensures { λ r. ⌜ r ≡ min places 3 ⌝ }
-{
-    if places < 3 { places } else { 3 }
+    if place == 2 {
+        fit_len(slots, old.slots, new.slots);
+    }
 }
 
 // The stores of a truncation's first places.
@@ -55,17 +49,17 @@ pub fn store_run(
     slots: &mut [u8],
     rows: &mut [u8],
     checkpoints: &mut [u8],
-    lengths: Lengths,
+    old: Lengths,
+    new: Lengths,
     places: u64,
 )
     ensures { λ _. ⌜ areas (now (slots .exit)) (now (rows .exit)) (now (checkpoints .exit))
-        ≡ run places (lengthPlaces lengths (areas (now (slots .entry)) (now (rows .entry)) (now (checkpoints .entry))))
-        (areas (now (slots .entry)) (now (rows .entry)) (now (checkpoints .entry))) ⌝ }
+        ≡ run places (lengthPlaces old new) (areas (now (slots .entry)) (now (rows .entry)) (now (checkpoints .entry))) ⌝ }
 {
-    let end = place_count(places);
+    let end = lesser(places, 3);
     let mut i = 0;
     while i < end {
-        store_place(slots, rows, checkpoints, lengths, i);
+        store_place(slots, rows, checkpoints, old, new, i);
         i += 1;
     }
 }
@@ -75,17 +69,17 @@ pub fn store_rules(
     slots: &mut [u8],
     rows: &mut [u8],
     checkpoints: &mut [u8],
+    old: Lengths,
     rules: Rules,
     places: u64,
 )
     ensures { λ _. ⌜ areas (now (slots .exit)) (now (rows .exit)) (now (checkpoints .exit))
-        ≡ run places (rulesPlaces rules (areas (now (slots .entry)) (now (rows .entry)) (now (checkpoints .entry))))
-        (areas (now (slots .entry)) (now (rows .entry)) (now (checkpoints .entry))) ⌝ }
+        ≡ run places (rulesPlaces old rules) (areas (now (slots .entry)) (now (rows .entry)) (now (checkpoints .entry))) ⌝ }
 {
     let by_checkpoint = rules.checkpoint;
     let by_cut = rules.cut;
-    store_run(slots, rows, checkpoints, by_checkpoint, places);
+    store_run(slots, rows, checkpoints, old, by_checkpoint, places);
     if 3 < places {
-        store_run(slots, rows, checkpoints, by_cut, places - 3);
+        store_run(slots, rows, checkpoints, by_checkpoint, by_cut, places - 3);
     }
 }

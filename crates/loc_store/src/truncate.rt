@@ -35,7 +35,7 @@ pub fn truncate_run(
         return refused(PAST_COUNT);
     }
     let plan = lengths(kind, rows, count);
-    store_run(slots, rows, checkpoints, plan, places);
+    store_run(slots, rows, checkpoints, checked.ends, plan, places);
     let left = published(slots, 2).count as u64;
     accepted(left)
 }

@@ -19,8 +19,8 @@ same-length-3 c = search needs
 returns : tie.Need-returns
 returns c = search (needs, place-bytes)
 
-grow-requires : tie.Need-grow-requires
-grow-requires c κs = search needs
+fit-len-requires : tie.Need-fit-len-requires
+fit-len-requires c κs = search needs
 
 same-length-4 : tie.Need-same-length-4
 same-length-4 c = search needs
@@ -28,8 +28,8 @@ same-length-4 c = search needs
 returns-2 : tie.Need-returns-2
 returns-2 c = search (needs, place-slots)
 
-grow-requires-2 : tie.Need-grow-requires-2
-grow-requires-2 c κs = search needs
+fit-len-requires-2 : tie.Need-fit-len-requires-2
+fit-len-requires-2 c κs = search needs
 
 same-length-5 : tie.Need-same-length-5
 same-length-5 c = search needs
@@ -37,8 +37,8 @@ same-length-5 c = search needs
 returns-3 : tie.Need-returns-3
 returns-3 c = search (needs, place-rows)
 
-grow-requires-3 : tie.Need-grow-requires-3
-grow-requires-3 c κs = search needs
+fit-len-requires-3 : tie.Need-fit-len-requires-3
+fit-len-requires-3 c κs = search needs
 
 same-length-6 : tie.Need-same-length-6
 same-length-6 c = search needs
@@ -58,13 +58,13 @@ append-step-spec =
     same-length-2
     same-length-3
     returns
-    grow-requires
+    fit-len-requires
     same-length-4
     returns-2
-    grow-requires-2
+    fit-len-requires-2
     same-length-5
     returns-3
-    grow-requires-3
+    fit-len-requires-3
     same-length-6
     returns-4
     returns-5)

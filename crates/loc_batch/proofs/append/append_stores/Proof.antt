@@ -5,7 +5,8 @@ use lib.ListN.{length}
 use mathlib.Core.Path.{_≡_, refl}
 use native.Mathlib.Omega.{arith}
 use Rattle.loc_calls.specs.Table.{batch}
-use Rattle.loc_batch.proofs.AppendLaws.{room-first, run-turn, run-done}
+use Rattle.loc_store.proofs.StoreLaws.{run-turn}
+use Rattle.loc_batch.proofs.AppendLaws.{room-first, run-end}
 use Rattle.loc_batch.specs.Lists.{entryAt, listed}
 use Rattle.loc_batch.specs.Plans.{stagePlaces}
 use Rattle.loc_calls.specs.Areas.{areas}
@@ -21,8 +22,8 @@ Inv-loop slots₀ rows₀ checkpoints₀ kind starts lens span-starts span-count
 abbrev μ-loop : tie.MeasureT-loop
 μ-loop slots₀ rows₀ checkpoints₀ kind starts lens span-starts span-counts t s last i₀ slots rows checkpoints i = last - i
 
-places-of-requires : tie.Need-places-of-requires Inv-loop μ-loop
-places-of-requires c κs = search needs
+lesser-requires : tie.Need-lesser-requires Inv-loop μ-loop
+lesser-requires c κs = search needs
 
 loop-holds : tie.Need-loop-holds Inv-loop μ-loop
 unfolding run
@@ -38,7 +39,7 @@ loop-less : tie.Need-loop-less Inv-loop μ-loop
 loop-less c = search needs
 
 loop-again : tie.Need-loop-again Inv-loop μ-loop
-loop-again c = (search needs, search needs, search needs, search needs, run-turn _ _ _ _ _ _ (c .before .before .before .before .before .before .before .before .before .before .before .loop .inv .4) _ (c .before .before .before .before .before .before .append-step .ensures))
+loop-again c = (search needs, search needs, search needs, search needs, run-turn _ _ _ _ _ (c .before .before .before .before .before .before .before .before .before .before .before .loop .inv .4) (c .before .before .before .before .before .before .append-step .ensures))
 
 same-length : tie.Need-same-length Inv-loop μ-loop
 same-length c = search needs
@@ -50,7 +51,7 @@ same-length-3 : tie.Need-same-length-3 Inv-loop μ-loop
 same-length-3 c = search needs
 
 returns : tie.Need-returns Inv-loop μ-loop
-returns c = search (needs, run-done)
+returns c = search (needs, run-end)
 
 pub append-stores-spec : {M : Type 1} → statement M
 append-stores-spec =
@@ -58,7 +59,7 @@ append-stores-spec =
     (tie.spec
     Inv-loop
     μ-loop
-    places-of-requires
+    lesser-requires
     loop-holds
     append-step-requires
     add-i

@@ -48,14 +48,13 @@ returns-2 : tie.Need-returns-2
 returns-2 c = search (needs, open-refused)
 
 rules-requires : tie.Need-rules-requires
-rules-requires c κs =
-    let accepted = c .before .before .before in
-    let found = accepted .before .before .before in
-    let sized = found .before .before .before .before in
-    let start = sized .before .before .before .before .before .before .before .before in (
-      (not-small (now (start .args .slots)) (now (start .args .rows)) (now (start .args .checkpoints)) _ (sized .before .too-small .ensures) (sized .if1 .left), search needs),
-      opened-ascends (start .args .kind) (now (start .args .slots)) (now (start .args .rows)) (now (start .args .checkpoints)) (sym (accepted .before .open-refusal .ensures _ _ (found .published-areas .ensures)) ∙ accepted .if2 .left),
-    )
+rules-requires c κs = (
+  (not-small (now (c .before .before .before .before .before .before .before .before .before .before .before .before .before .before .before .before .before .before .args .slots)) (now (c .before .before .before .before .before .before .before .before .before .before .before .before .before .before .before .before .before .before .args .rows)) (now (c .before .before .before .before .before .before .before .before .before .before .before .before .before .before .before .before .before .before .args .checkpoints)) _ (c .before .before .before .before .before .before .before .before .before .before .before .too-small .ensures) (c .before .before .before .before .before .before .before .before .before .before .if1 .left), search needs),
+  opened-ascends (c .before .before .before .before .before .before .before .before .before .before .before .before .before .before .before .before .before .before .args .kind) (now (c .before .before .before .before .before .before .before .before .before .before .before .before .before .before .before .before .before .before .args .slots)) (now (c .before .before .before .before .before .before .before .before .before .before .before .before .before .before .before .before .before .before .args .rows)) (now (c .before .before .before .before .before .before .before .before .before .before .before .before .before .before .before .before .before .before .args .checkpoints)) (sym (c .before .before .before .before .open-refusal .ensures _ _ (c .before .before .before .before .before .before .published-areas .ensures)) ∙ c .before .before .before .if2 .left),
+)
+
+ends-requires : tie.Need-ends-requires
+ends-requires c κs = search needs
 
 store-rules-requires : tie.Need-store-rules-requires
 store-rules-requires c κs = search needs
@@ -77,12 +76,8 @@ same-length-9 c = search needs
 
 returns-3 : tie.Need-returns-3
 returns-3 c =
-    let accepted = c .before .before .before .before .before .before .before .before .before .before .before .before .before .before .before .before .before in
-    let found = accepted .before .before .before in
-    let sized = found .before .before .before .before in
-    let start = sized .before .before .before .before .before .before .before .before in
-    open-done (start .args .kind) (now (start .args .slots)) (now (start .args .rows)) (now (start .args .checkpoints)) _ _ (sized .before .too-small .ensures) _ (sized .if1 .left) _ (found .published-areas .ensures) _ (accepted .before .open-refusal .ensures)
-    _ _ _ _ _ (accepted .if2 .left) (c .before .before .before .before .before .before .before .before .before .before .before .before .before .rules .ensures) (c .before .before .before .before .before .before .before .before .before .store-rules .ensures) (c .before .published .ensures .count) (c .accepted .ensures)
+    open-done (c .before .before .before .before .before .before .before .before .before .before .before .before .before .before .before .before .before .before .before .before .before .before .before .before .before .before .before .before .before .before .before .before .before .args .kind) (now (c .before .before .before .before .before .before .before .before .before .before .before .before .before .before .before .before .before .before .before .before .before .before .before .before .before .before .before .before .before .before .before .before .before .args .slots)) (now (c .before .before .before .before .before .before .before .before .before .before .before .before .before .before .before .before .before .before .before .before .before .before .before .before .before .before .before .before .before .before .before .before .before .args .rows)) (now (c .before .before .before .before .before .before .before .before .before .before .before .before .before .before .before .before .before .before .before .before .before .before .before .before .before .before .before .before .before .before .before .before .before .args .checkpoints)) _ _ (c .before .before .before .before .before .before .before .before .before .before .before .before .before .before .before .before .before .before .before .before .before .before .before .before .before .before .too-small .ensures) _ (c .before .before .before .before .before .before .before .before .before .before .before .before .before .before .before .before .before .before .before .before .before .before .before .before .before .if1 .left) _ (c .before .before .before .before .before .before .before .before .before .before .before .before .before .before .before .before .before .before .before .before .before .published-areas .ensures) _ (c .before .before .before .before .before .before .before .before .before .before .before .before .before .before .before .before .before .before .before .open-refusal .ensures) (c .before .before .before .before .before .before .before .before .before .before .before .before .before .before .before .before .before .before .if2 .left) (search (needs, c .before .before .before .before .before .before .before .before .before .before .before .before .before .before .before .before .before .before .before .before .before .before .before .before .before .before .before .before .before .before .before .before .before .good .1 .0)) (search (needs, c .before .before .before .before .before .before .before .before .before .before .before .before .before .before .before .before .before .before .before .before .before .before .before .before .before .before .before .before .before .before .before .before .before .good .1 .1 .0)) (search (needs, c .before .before .before .before .before .before .before .before .before .before .before .before .before .before .before .before .before .before .before .before .before .before .before .before .before .before .before .before .before .before .before .before .before .good .1 .1 .1 .0))
+    _ (c .before .before .before .before .before .before .before .before .before .before .ends .ensures) _ _ _ _ _ (c .before .before .before .before .before .before .before .before .before .before .before .before .before .before .rules .ensures) (c .before .before .before .before .before .before .before .before .before .store-rules .ensures) (c .before .published .ensures .count) (c .accepted .ensures)
 
 pub open-run-spec : {M : Type 1} → statement M
 open-run-spec =
@@ -102,6 +97,7 @@ open-run-spec =
     same-length-6
     returns-2
     rules-requires
+    ends-requires
     store-rules-requires
     published-requires
     accepted-requires

@@ -5,9 +5,6 @@ use Rattle.loc_store.proofs.StoreLaws.{fitted-same, fitted-other}
 use Rattle.loc_store.proofs.store.fit_len.Statement.{statement}
 use Rattle.loc_store.proofs.store.fit_len.Tie as tie
 
-logical-len-requires : tie.Need-logical-len-requires
-logical-len-requires c κs = search needs
-
 store-len-requires : tie.Need-store-len-requires
 store-len-requires c κs = search needs
 
@@ -17,13 +14,8 @@ same-length c = search needs
 returns : tie.Need-returns
 returns c = search (needs, fitted-other)
 
-same-length-2 : tie.Need-same-length-2
-same-length-2 c = search needs
-
 returns-2 : tie.Need-returns-2
 returns-2 c = search (needs, fitted-same)
 
 pub fit-len-spec : {M : Type 1} → statement M
-fit-len-spec =
-    tie.close
-    (tie.spec logical-len-requires store-len-requires same-length returns same-length-2 returns-2)
+fit-len-spec = tie.close (tie.spec store-len-requires same-length returns returns-2)

@@ -1,7 +1,7 @@
 -- `loc_store::store::store_place` meets its contract.
 -- A law for each place.
 use borrow.Author.Needs.{needs}
-use Rattle.loc_store.proofs.StoreLaws.{store-checkpoints, store-rows, store-slots}
+use Rattle.loc_store.proofs.StoreLaws.{store-checkpoints, store-rows, store-slots, store-none}
 use Rattle.loc_store.proofs.store.store_place.Statement.{statement}
 use Rattle.loc_store.proofs.store.store_place.Tie as tie
 
@@ -32,6 +32,9 @@ same-length-3 c = search needs
 returns-3 : tie.Need-returns-3
 returns-3 c = search (needs, store-slots)
 
+returns-4 : tie.Need-returns-4
+returns-4 c = search (needs, store-none)
+
 pub store-place-spec : {M : Type 1} → statement M
 store-place-spec =
     tie.close
@@ -44,4 +47,5 @@ store-place-spec =
     returns-2
     fit-len-requires-3
     same-length-3
-    returns-3)
+    returns-3
+    returns-4)

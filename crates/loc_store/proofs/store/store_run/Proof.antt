@@ -8,23 +8,23 @@ use borrow.Author.Needs.{needs}
 use Rattle.loc_calls.specs.Stores.{run}
 use Rattle.loc_calls.specs.Areas.{areas}
 use Rattle.loc_store.specs.Plans.{lengthPlaces}
-use Rattle.loc_store.proofs.StoreLaws.{run-next, run-end}
+use Rattle.loc_store.proofs.StoreLaws.{run-turn, run-end}
 use Rattle.loc_store.proofs.store.store_run.Statement.{statement}
 use Rattle.loc_store.proofs.store.store_run.Tie as tie
 
 abbrev Inv-loop : tie.InvT-loop
-Inv-loop slots₀ rows₀ checkpoints₀ lengths places end i₀ slots rows checkpoints i =
+Inv-loop slots₀ rows₀ checkpoints₀ old new places end i₀ slots rows checkpoints i =
     (i ≤ end)
     × (length slots ≡ length slots₀)
     × (length rows ≡ length rows₀)
     × (length checkpoints ≡ length checkpoints₀)
-    × (areas slots rows checkpoints ≡ run i (lengthPlaces lengths (areas slots₀ rows₀ checkpoints₀)) (areas slots₀ rows₀ checkpoints₀))
+    × (areas slots rows checkpoints ≡ run i (lengthPlaces old new) (areas slots₀ rows₀ checkpoints₀))
 
 abbrev μ-loop : tie.MeasureT-loop
-μ-loop slots₀ rows₀ checkpoints₀ lengths places end i₀ slots rows checkpoints i = end - i
+μ-loop slots₀ rows₀ checkpoints₀ old new places end i₀ slots rows checkpoints i = end - i
 
-place-count-requires : tie.Need-place-count-requires Inv-loop μ-loop
-place-count-requires c κs = search needs
+lesser-requires : tie.Need-lesser-requires Inv-loop μ-loop
+lesser-requires c κs = search needs
 
 loop-holds : tie.Need-loop-holds Inv-loop μ-loop
 unfolding run
@@ -40,7 +40,7 @@ loop-less : tie.Need-loop-less Inv-loop μ-loop
 loop-less c = search needs
 
 loop-again : tie.Need-loop-again Inv-loop μ-loop
-loop-again c = (search needs, search needs, search needs, search needs, search (needs, run-next))
+loop-again c = (search needs, search needs, search needs, search needs, search (needs, run-turn))
 
 same-length : tie.Need-same-length Inv-loop μ-loop
 same-length c = search needs
@@ -60,7 +60,7 @@ store-run-spec =
     (tie.spec
     Inv-loop
     μ-loop
-    place-count-requires
+    lesser-requires
     loop-holds
     store-place-requires
     add-i

@@ -42,11 +42,11 @@ returns-2 : tie.Need-returns-2
 returns-2 c = search (needs, truncate-past)
 
 lengths-requires : tie.Need-lengths-requires
-lengths-requires c κs =
-    let accepted = c .before .before .before in
-    let start = accepted .before .before .before .before .before .before .before .before .before in
-    let first = accepted .before .before .check-areas .ensures .number in
-    (omega arith, accepted-sized (start .args .kind) (now (start .args .slots)) (now (start .args .rows)) (now (start .args .checkpoints)) _ first (accepted .if1 .left) .rowsHold, accepted-ascends (start .args .kind) (now (start .args .slots)) (now (start .args .rows)) (now (start .args .checkpoints)) _ first (accepted .if1 .left))
+lengths-requires c κs = (
+  omega arith,
+  accepted-sized (c .before .before .before .before .before .before .before .before .before .before .before .before .args .kind) (now (c .before .before .before .before .before .before .before .before .before .before .before .before .args .slots)) (now (c .before .before .before .before .before .before .before .before .before .before .before .before .args .rows)) (now (c .before .before .before .before .before .before .before .before .before .before .before .before .args .checkpoints)) _ (c .before .before .before .before .before .check-areas .ensures .number) (c .before .before .before .if1 .left) .rowsHold,
+  accepted-ascends (c .before .before .before .before .before .before .before .before .before .before .before .before .args .kind) (now (c .before .before .before .before .before .before .before .before .before .before .before .before .args .slots)) (now (c .before .before .before .before .before .before .before .before .before .before .before .before .args .rows)) (now (c .before .before .before .before .before .before .before .before .before .before .before .before .args .checkpoints)) _ (c .before .before .before .before .before .check-areas .ensures .number) (c .before .before .before .if1 .left),
+)
 
 store-run-requires : tie.Need-store-run-requires
 store-run-requires c κs = search needs
