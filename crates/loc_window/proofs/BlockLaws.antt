@@ -18,7 +18,7 @@ use Rattle.loc_leaf.proofs.Lanes.{bytes-8}
 
 -- ---- eight bytes
 
-abbrev flat : ℕ → ℕ → ℕ → ℕ → ℕ → ℕ → ℕ → ℕ → ℕ
+abbrev pub flat : ℕ → ℕ → ℕ → ℕ → ℕ → ℕ → ℕ → ℕ → ℕ
 flat a b c d e f g h =
     a + b * 0x100 + c * 0x1_0000 + d * 0x100_0000 + e * 0x1_0000_0000 + f * 0x100_0000_0000 + g * 0x1_0000_0000_0000 + h * 0x100_0000_0000_0000
 
@@ -60,7 +60,7 @@ next : (s : List ℕ) (n i j : ℕ) → i + 1 ≡ j → i < length s → take (s
 next s n i j e h = ap (take (suc n)) (drop-cons s i 0 h) ∙ ap (λ (m : ℕ). getD s i 0 ∷ take n (drop m s)) (sym (add-one i) ∙ e)
 
 -- eight entries of a list, one by one
-eight-of : (s : List ℕ) (i : ℕ) → i + 8 ≤ length s
+pub eight-of : (s : List ℕ) (i : ℕ) → i + 8 ≤ length s
     → take 8 (drop i s)
     ≡ getD s i 0 ∷ getD s (i + 1) 0 ∷ getD s (i + 2) 0 ∷ getD s (i + 3) 0 ∷ getD s (i + 4) 0 ∷ getD s (i + 5) 0 ∷ getD s (i + 6) 0 ∷ getD s (i + 7) 0 ∷ []
 eight-of s i h =
@@ -86,13 +86,13 @@ word-bytes s i r h b e =
 -- ---- the block's bytes in the copy
 
 -- two functions that agree from i and from j on, for n numbers
-abbrev Agree : (ℕ → ℕ) → (ℕ → ℕ) → ℕ → ℕ → ℕ → Type 0
+abbrev pub Agree : (ℕ → ℕ) → (ℕ → ℕ) → ℕ → ℕ → ℕ → Type 0
 Agree f g i j n = (t : ℕ) → t < n → f (i + t) ≡ g (j + t)
 
-agree-here : (f g : ℕ → ℕ) (i j n : ℕ) → Agree f g i j (suc n) → f i ≡ g j
+pub agree-here : (f g : ℕ → ℕ) (i j n : ℕ) → Agree f g i j (suc n) → f i ≡ g j
 agree-here f g i j n e = ap f (sym (add-zero i)) ∙ e 0 (omega arith) ∙ ap g (add-zero j)
 
-agree-next : (f g : ℕ → ℕ) (i j n : ℕ) → Agree f g i j (suc n) → Agree f g (i + 1) (j + 1) n
+pub agree-next : (f g : ℕ → ℕ) (i j n : ℕ) → Agree f g i j (suc n) → Agree f g (i + 1) (j + 1) n
 agree-next f g i j n e t h =
     let at : (k : ℕ) → k + 1 + t ≡ k + suc t = (λ k. omega arith) in
     ap f (at i) ∙ e (suc t) (omega arith) ∙ ap g (sym (at j))
@@ -122,7 +122,7 @@ module _ (s : Bytes) (k n : ℕ) (part : Bytes) (e : part ≡ take (2 * n) (drop
       let y : byte (2 * t + 1) part ≡ byte (2 * (k + t) + 1) s = part-byte (2 * t + 1) (omega arith) ∙ ap (λ (u : ℕ). byte u s) q in
       (λ i. x i ∷ y i ∷ [])
 
-  part-agree : (g : Bytes → ℕ) → Agree (λ i. g (slotBytes part i)) (λ i. g (slotBytes s i)) 0 k n
+  pub part-agree : (g : Bytes → ℕ) → Agree (λ i. g (slotBytes part i)) (λ i. g (slotBytes s i)) 0 k n
   part-agree g t h = ap (λ (u : ℕ). g (slotBytes part u)) (zero-add t) ∙ ap g (part-slot t h)
 
   pub part-sum : (g : Bytes → ℕ) → sumFrom (λ i. g (slotBytes part i)) 0 n ≡ sumFrom (λ i. g (slotBytes s i)) k n
@@ -132,7 +132,7 @@ module _ (s : Bytes) (k lo hi : ℕ) (el : bytes 8 lo ≡ take 8 (drop (2 * k) s
   block-is : bytes 8 lo ++ bytes 8 hi ≡ take 16 (drop (2 * k) s)
   block-is = (λ i. el i ++ (eh ∙ ap (take 8) (sym (drop-drop 8 (2 * k) s))) i) ∙ sym (take-add 8 8 (drop (2 * k) s))
 
-  slots-agree : (g : Bytes → ℕ) → Agree (λ i. g (slotBytes (bytes 8 lo ++ bytes 8 hi) i)) (λ i. g (slotBytes s i)) 0 k 8
+  pub slots-agree : (g : Bytes → ℕ) → Agree (λ i. g (slotBytes (bytes 8 lo ++ bytes 8 hi) i)) (λ i. g (slotBytes s i)) 0 k 8
   slots-agree = part-agree s k 8 (bytes 8 lo ++ bytes 8 hi) block-is
 
   -- what its first n records give, added up

@@ -3,24 +3,28 @@
 use Prim.Native.Nat.{ℕ, zero, suc, _+_, _-_, _*_, _/_, _^_, _≤_, _<_}
 use mathlib.Core.Path.{_≡_, refl, sym, ap, _∙_, subst}
 use mathlib.Core.Logic.{_⊎_, ⊎-elim}
-use mathlib.Core.Bool.{false}
+use mathlib.Core.Bool.{true, false}
 use mathlib.Core.List.{List, [], _++_}
 use native.Mathlib.Nat.{add-zero, zero-add, eq-or-lt-of-le}
 use native.Mathlib.Decide.{decLe}
 use native.Mathlib.Omega.{arith}
-use lib.ListN.{length, getD, take, drop}
+use lib.Dec.{eqb}
+use lib.ListN.{getD, take, drop}
+use borrow.Author.Tests.{eqb-true}
 use Rattle.loc_leaf.specs.declared.Kind.{Kind}
+use Rattle.loc_leaf.specs.declared.Kind.the-variants.{Paired, Single}
 use Rattle.loc_leaf.specs.declared.Value.{Value}
 use Rattle.loc_leaf.specs.Bytes.{Bytes, byte, bytes}
-use Rattle.loc_leaf.specs.Block.{lowest, rowMask, sumFrom, inlineStrides, inlineSpans, BlockTotal}
+use Rattle.loc_leaf.specs.Block.{lowest, rowMask, sumFrom, inlineStrides, inlineSpans}
 use Rattle.loc_leaf.specs.Slot.{needsRow, inline}
 use Rattle.loc_leaf.specs.Rows.{rowList, rowValue}
+use Rattle.loc_leaf.proofs.Booleans.{both-left, both-right}
 use Rattle.loc_leaf.proofs.MaskLaws.{mask-none, mask-first, mask-low, First}
 use Rattle.loc_calls.specs.Reading.{lookupAt, has}
 use Rattle.loc_window.specs.declared.Sums.{Sums}
 use Rattle.loc_window.specs.declared.Step.{Step}
 use Rattle.loc_window.specs.declared.Step.the-variants.{Next, Lack}
-use Rattle.loc_window.specs.Window.{windowAreas, complete, Passed, After, sumsOf, plusValue, FoundRow, slotBytes, BlockReady, BlockStepped, Swapping, Unmarked, BlocksAfter, PlainBlocks}
+use Rattle.loc_window.specs.Window.{windowAreas, complete, Passed, Rising, After, sumsOf, plusValue, FoundRow, slotBytes, BlockReady, BlockStepped, Swapping, Unmarked, BlocksAfter, PlainBlocks, BlocksPassed}
 use Rattle.loc_window.proofs.BlockLaws.{block-strides, block-spans, block-mask}
 use Rattle.loc_window.proofs.SumLaws.{all-more, passed-more, after-at, step-inline, step-row, lacks-row}
 
@@ -56,7 +60,7 @@ sum-at g j n z h =
 
 module _ (k : Kind) (f : ℕ) (bytes rows : Bytes) where
   -- none of n records from record j on needs a row
-  abbrev Plain : ℕ → ℕ → Type 0
+  abbrev pub Plain : ℕ → ℕ → Type 0
   Plain j n = (i : ℕ) → j ≤ i → i < j + n → needsRow k (slotBytes bytes i) ≡ false
 
   pub after-plain : (n j block : ℕ) (s : Sums) → After k f bytes rows j s → Plain j n → inlineStrides k bytes j n < 2 ^ 32 → inlineSpans k bytes j n < 2 ^ 32
@@ -221,63 +225,56 @@ module _ (k : Kind) (f : ℕ) (bytes rows : Bytes) (mark : List ℕ) (stamp full
 
 -- ---- rows put in place of bytes
 
--- equal values have equal parts
-value-parts : (u v : Value) → u ≡ v → (u .strides ≡ v .strides) × (u .spans ≡ v .spans)
-value-parts u v e = (ap (λ (w : Value). w .strides) e, ap (λ (w : Value). w .spans) e)
+-- a paired record's bytes
+pub pair-bytes : (s : Bytes) (j : ℕ) → (inline Paired (slotBytes s j) .strides ≡ byte (2 * j) s) × (inline Paired (slotBytes s j) .spans ≡ byte (2 * j + 1) s)
+unfolding inline
+pair-bytes s j = (refl, refl)
+
+-- a single record that needs a row has no byte but 0
+pub single-empty : (s : Bytes) (j : ℕ) → needsRow Single (slotBytes s j) ≡ true → (inline Single (slotBytes s j) .strides ≡ 0) × (inline Single (slotBytes s j) .spans ≡ 0)
+unfolding inline needsRow
+single-empty s j e =
+    let x : byte (2 * j) s ≡ 0 = eqb-true (byte (2 * j) s) 0 (both-left (eqb (byte (2 * j) s) 0) (eqb (byte (2 * j + 1) s) 0) e) in
+    let y : byte (2 * j + 1) s ≡ 0 = eqb-true (byte (2 * j + 1) s) 0 (both-right (eqb (byte (2 * j) s) 0) (eqb (byte (2 * j + 1) s) 0) e) in
+    (omega arith, refl)
+
+pub single-spans : (v : Value) (r : Bytes) → v ≡ rowValue Single r → v .spans ≡ 0
+unfolding rowValue
+single-spans v r e = ap (λ (u : Value). u .spans) e
 
 module _ (k : Kind) (f : ℕ) (s rows : Bytes) where
-  -- block b's records from record j on
-  abbrev pub Swaps : ℕ → ℕ → ℕ → ℕ → ℕ → ℕ → Type 0
-  Swaps b j x y row left = (8 * b ≤ j) × (j ≤ 8 * b + 8) × Swapping k f s rows j (8 * b + 8 - j) x y row left
-
-  pub swap-begin : (a : Sums) (lo hi left : ℕ) (v : Value) → bytes 8 lo ≡ take 8 (drop (16 * a .block) s) → bytes 8 hi ≡ take 8 (drop (16 * a .block + 8) s) → After k f s rows (8 * a .block) a
-      → BlockTotal k (bytes 8 lo ++ bytes 8 hi) v → left ≡ rowMask k (bytes 8 lo ++ bytes 8 hi) 0 8
-      → Swaps (a .block) (8 * a .block) (a .strides + v .strides) (a .spans + v .spans) (a .row) left
-  swap-begin a lo hi left v el eh w t m =
-      let b : ℕ = a .block in
-      let n : ℕ = 8 * b + 8 - 8 * b in
-      let en : 8 ≡ n = omega arith in
-      let p : v .strides ≡ inlineStrides k s (8 * b) n = t .isStrides ∙ words-strides k s b lo hi el eh ∙ ap (λ (i : ℕ). inlineStrides k s (8 * b) i) en in
-      let q : v .spans ≡ inlineSpans k s (8 * b) n = t .isSpans ∙ words-spans k s b lo hi el eh ∙ ap (λ (i : ℕ). inlineSpans k s (8 * b) i) en in (
-        omega arith,
-        omega arith,
-        record {
-          strides = a .strides;
-          spans = a .spans;
-          after = after-at k f s rows (8 * b) 0 a w;
-          isStrides = ap (λ (i : ℕ). a .strides + i) p;
-          isSpans = ap (λ (i : ℕ). a .spans + i) q;
-          stridesFew = omega (arith, t .stridesFew);
-          spansFew = omega (arith, t .spansFew);
-          isLeft = m ∙ words-mask k s b lo hi el eh ∙ ap (λ (i : ℕ). rowMask k s (8 * b) i) en;
-        },
-      )
+  pub swap-begin : (a : Sums) (b n lo hi dx dy y left : ℕ) → bytes 8 lo ≡ take 8 (drop (16 * b) s) → bytes 8 hi ≡ take 8 (drop (16 * b + 8) s) → After k f s rows (8 * b) a
+      → dx ≡ inlineStrides k (bytes 8 lo ++ bytes 8 hi) 0 8 → dy ≡ inlineSpans k (bytes 8 lo ++ bytes 8 hi) 0 8 → dx < 2 ^ 19 → dy < 2 ^ 19 → y ≡ a .spans + dy
+      → left ≡ rowMask k (bytes 8 lo ++ bytes 8 hi) 0 8 → n ≡ 8 → Swapping k f s rows (8 * b) n (a .strides + dx) y (a .row) left
+  swap-begin a b n lo hi dx dy y left el eh w ex ey hx hy e′ m en =
+      let p : dx ≡ inlineStrides k s (8 * b) n = ex ∙ words-strides k s b lo hi el eh ∙ ap (λ (t : ℕ). inlineStrides k s (8 * b) t) (sym en) in
+      let q : dy ≡ inlineSpans k s (8 * b) n = ey ∙ words-spans k s b lo hi el eh ∙ ap (λ (t : ℕ). inlineSpans k s (8 * b) t) (sym en) in
+      record {
+        strides = a .strides;
+        spans = a .spans;
+        after = after-at k f s rows (8 * b) 0 a w;
+        isStrides = ap (λ (t : ℕ). a .strides + t) p;
+        isSpans = e′ ∙ ap (λ (t : ℕ). a .spans + t) q;
+        stridesFew = omega arith;
+        spansFew = omega arith;
+        isLeft = m ∙ words-mask k s b lo hi el eh ∙ ap (λ (t : ℕ). rowMask k s (8 * b) t) (sym en);
+      }
 
   -- no record is left that needs a row
-  pub swap-end : (b j x y row left : ℕ) → Swaps b j x y row left → left ≡ 0 → BlockStepped k f s rows b (Next (sumsOf x y row (b + 1)))
-  swap-end b j x y row left (h, g, w) z =
-      let n : ℕ = 8 * b + 8 - j in
-      let e : j + n ≡ 8 * (b + 1) = omega arith in (
-        refl,
-        subst (λ (i : ℕ). After k f s rows i (sumsOf x y row (b + 1))) e
-            (subst (λ (u : Sums). After k f s rows (j + n) u) (sym (λ i. sumsOf (w .isStrides i) (w .isSpans i) row (b + 1)))
-            (after-plain k f s rows n j (b + 1) (sumsOf (w .strides) (w .spans) row 0) (w .after) (mask-none k s j n (sym (w .isLeft) ∙ z)) (w .stridesFew) (w .spansFew))),
-      )
+  pub swap-end : (j n x y row left m block : ℕ) → Swapping k f s rows j n x y row left → left ≡ 0 → j + n ≡ m → After k f s rows m (sumsOf x y row block)
+  swap-end j n x y row left m block w z e =
+      subst (λ (t : ℕ). After k f s rows t (sumsOf x y row block)) e
+      (subst (λ (u : Sums). After k f s rows (j + n) u) (sym (λ i. sumsOf (w .isStrides i) (w .isSpans i) row block))
+      (after-plain k f s rows n j block (sumsOf (w .strides) (w .spans) row 0) (w .after) (mask-none k s j n (sym (w .isLeft) ∙ z)) (w .stridesFew) (w .spansFew)))
 
   -- the mask is a byte
-  pub swap-byte : (b j x y row left : ℕ) → Swaps b j x y row left → left < 256
-  swap-byte b j x y row left (h, g, w) = omega (arith, w .isLeft, mask-low k s j (8 * b + 8 - j) (omega arith))
+  pub swap-byte : (j n x y row left : ℕ) → Swapping k f s rows j n x y row left → n ≤ 8 → left < 256
+  swap-byte j n x y row left w h = omega (arith, w .isLeft, mask-low k s j n h)
 
   -- record j + z is the next one that needs a row
-  module _ (b j x y row left z : ℕ) (i : Swaps b j x y row left) (ne : left ≡ 0 → ⊥) (ez : z ≡ lowest 8 left) where
-    abbrev n : ℕ
-    n = 8 * b + 8 - j
-
-    w : Swapping k f s rows j n x y row left
-    w = i .2
-
+  module _ (j n x y row left z : ℕ) (w : Swapping k f s rows j n x y row left) (h : n ≤ 8) (ne : left ≡ 0 → ⊥) (ez : z ≡ lowest 8 left) where
     first : First k s j n z
-    first = mask-first k s j n z (omega (arith, i .0)) (λ e. ne (w .isLeft ∙ e)) (ez ∙ ap (lowest 8) (w .isLeft))
+    first = mask-first k s j n z h (λ e. ne (w .isLeft ∙ e)) (ez ∙ ap (lowest 8) (w .isLeft))
 
     parts : (g : ℕ → ℕ) → sumFrom g j n ≡ sumFrom g j z + (g (j + z) + sumFrom g (j + z + 1) (n - z - 1))
     parts g = sum-at g j n z (first .0)
@@ -293,56 +290,50 @@ module _ (k : Kind) (f : ℕ) (s rows : Bytes) where
         after-plain k f s rows z j 0 (sumsOf (w .strides) (w .spans) row 0) (w .after) (first .1)
         (omega (arith, w .stridesFew, strides-parts)) (omega (arith, w .spansFew, spans-parts))
 
-    pub swap-passed : (id : ℕ) → id ≡ f + (j + z) + 1 → Passed (rowList k rows) row id
-    swap-passed id e = passed-more k f s rows row (f + (j + z)) id (omega arith) (at .passed)
+    pub swap-in : z < n
+    swap-in = first .0
 
-    module _ (count : ℕ) (a : Sums) (r : BlockReady k f s rows count (b + 1) a) where
-      -- its place is low, and the sums hold its bytes and are small
-      pub swap-place : (z < 8) × (j + z < 8 * b + 8) × (j + z < 1024) × (2 * (j + z) + 1 < length s) × (f + (j + z) + 1 < 2 ^ 64)
-      swap-place = (
-        omega (arith, first .0, i .0),
-        omega (arith, first .0, i .1),
-        omega (arith, first .0, i .1, r .few),
-        omega (arith, first .0, i .1, r .copied),
-        omega (arith, first .0, i .1, r .few, r .numbers),
-      )
+    pub swap-needs : needsRow k (slotBytes s (j + z)) ≡ true
+    swap-needs = first .2
 
-      pub swap-sums : (u : Value) → u ≡ inline k (slotBytes s (j + z)) → (u .strides ≤ x) × (u .spans ≤ y) × (x < 2 ^ 44) × (y < 2 ^ 44)
-      swap-sums u e =
-          let v = value-parts u _ e in (
-            omega (arith, v .0, w .isStrides, strides-parts),
-            omega (arith, v .1, w .isSpans, spans-parts),
-            omega (arith, swap-place .2, w .isStrides, w .stridesFew, w .after .stridesLow),
-            omega (arith, swap-place .2, w .isSpans, w .spansFew, w .after .spansLow),
-          )
+    pub swap-passed : (id : ℕ) → f + (j + z) ≤ id → Passed (rowList k rows) row id
+    swap-passed id l = passed-more k f s rows row (f + (j + z)) id l (at .passed)
 
-      module _ (id p : ℕ) (ei : id ≡ f + (j + z) + 1) (found : FoundRow k rows count id p) where
-        suc-id : id ≡ f + suc (j + z)
-        suc-id = omega arith
+    -- the sums hold its bytes, and are small
+    pub swap-holds : (inline k (slotBytes s (j + z)) .strides ≤ x) × (inline k (slotBytes s (j + z)) .spans ≤ y)
+    swap-holds = (omega (arith, w .isStrides, strides-parts), omega (arith, w .isSpans, spans-parts))
 
-        pub swap-lack : p ≡ count → BlockStepped k f s rows b Lack
-        swap-lack e =
-            all-more (λ i. has (lookupAt k (windowAreas f s rows) i)) f (j + z + 1) (8 * (b + 1)) (lacks-row k f s rows (j + z) id (r .rise .ascend) (first .2) suc-id (found .missing e))
-            (omega (arith, swap-place .1))
+    pub swap-small : j ≤ 1024 → (x < 2 ^ 44) × (y < 2 ^ 44)
+    swap-small l = (omega (arith, w .isStrides, w .stridesFew, w .after .stridesLow), omega (arith, w .isSpans, w .spansFew, w .after .spansLow))
 
-        -- its row's values in place of its bytes
-        pub swap-next : (u v : Value) (left′ : ℕ) → u ≡ inline k (slotBytes s (j + z)) → (p ≡ count → ⊥) → v ≡ rowValue k (getD (rowList k rows) p []) → v .strides < 2 ^ 32 → v .spans < 2 ^ 32
-            → left′ ≡ left / 2 ^ (z + 1) → Swaps b (j + z + 1) (x - u .strides + v .strides) (y - u .spans + v .spans) (p + 1) left′
-        swap-next u v left′ eu other ev hs hp el =
-            let held = swap-sums u eu in
-            let uv = value-parts u _ eu in
-            let en : n - z - 1 ≡ 8 * b + 8 - (j + z + 1) = omega arith in (
-              omega (arith, i .0),
-              omega (arith, swap-place .1),
-              subst (λ (m : ℕ). Swapping k f s rows (j + z + 1) m (x - u .strides + v .strides) (y - u .spans + v .spans) (p + 1) left′) en
-                  (record {
-                    strides = w .strides + inlineStrides k s j z + v .strides;
-                    spans = w .spans + inlineSpans k s j z + v .spans;
-                    after = step-row k f s rows (j + z) id (r .rise .ascend) (first .2) suc-id p _ v at (found .there (omega (arith, found .inside, other))) ev hs hp;
-                    isStrides = omega (arith, w .isStrides, strides-parts, held .0, uv .0);
-                    isSpans = omega (arith, w .isSpans, spans-parts, held .1, uv .1);
-                    stridesFew = omega (arith, w .stridesFew, strides-parts);
-                    spansFew = omega (arith, w .spansFew, spans-parts);
-                    isLeft = el ∙ ap (λ (t : ℕ). t / 2 ^ (z + 1)) (w .isLeft) ∙ first .3;
-                  }),
-            )
+    module _ (count id r : ℕ) (rise : Rising k rows count) (ei : id ≡ f + suc (j + z)) (found : FoundRow k rows count id r) where
+      pub swap-lack : (m : ℕ) → r ≡ count → j + n ≤ m → complete k (windowAreas f s rows) f m ≡ false
+      swap-lack m e l =
+          all-more (λ i. has (lookupAt k (windowAreas f s rows) i)) f (j + z + 1) m (lacks-row k f s rows (j + z) id (rise .ascend) (first .2) ei (found .missing e))
+          (omega (arith, first .0))
+
+      -- its row's values in place of its bytes
+      pub swap-next : (v : Value) (x′ y′ left′ j′ n′ : ℕ) → r < count → v ≡ rowValue k (getD (rowList k rows) r []) → v .strides < 2 ^ 32 → v .spans < 2 ^ 32
+          → x′ + inline k (slotBytes s (j + z)) .strides ≡ x + v .strides → y′ + inline k (slotBytes s (j + z)) .spans ≡ y + v .spans
+          → left′ ≡ left / 2 ^ (z + 1) → j′ ≡ j + z + 1 → n′ ≡ n - z - 1 → Swapping k f s rows j′ n′ x′ y′ (r + 1) left′
+      swap-next v x′ y′ left′ j′ n′ l ev hs hp ex ey el ej en =
+          rw (ej, en)
+          (record {
+            strides = w .strides + inlineStrides k s j z + v .strides;
+            spans = w .spans + inlineSpans k s j z + v .spans;
+            after = step-row k f s rows (j + z) id (rise .ascend) (first .2) ei r _ v at (found .there l) ev hs hp;
+            isStrides = omega (arith, w .isStrides, strides-parts);
+            isSpans = omega (arith, w .isSpans, spans-parts);
+            stridesFew = omega (arith, w .stridesFew, strides-parts);
+            spansFew = omega (arith, w .spansFew, spans-parts);
+            isLeft = el ∙ ap (λ (t : ℕ). t / 2 ^ (z + 1)) (w .isLeft) ∙ first .3;
+          })
+
+-- ---- by kind
+
+pub kind-ready : (k k′ : Kind) (f : ℕ) (bytes rows : Bytes) (count full : ℕ) (s : Sums) → k ≡ k′ → BlockReady k f bytes rows count full s → BlockReady k′ f bytes rows count full s
+kind-ready k k′ f bytes rows count full s e w = subst (λ (i : Kind). BlockReady i f bytes rows count full s) e w
+
+pub kind-passed : (k k′ : Kind) (f : ℕ) (bytes rows : Bytes) (mark : List ℕ) (stamp block full : ℕ) (r : Step) → k ≡ k′ → BlocksPassed k′ f bytes rows mark stamp block full r
+    → BlocksPassed k f bytes rows mark stamp block full r
+kind-passed k k′ f bytes rows mark stamp block full r e w = subst (λ (i : Kind). BlocksPassed i f bytes rows mark stamp block full r) (sym e) w

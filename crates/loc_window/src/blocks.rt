@@ -1,5 +1,5 @@
 // The sums of whole blocks by their words, up to a marked one.
-// The loop over blocks of which no record needs a row is one for each kind, so that no such block asks which kind it is of.
+// Each kind has its own loops, so that no block asks which kind it is of.
 ghost use mathlib.Core.Path.{_≡_};
 ghost use Prim.Native.Nat.{_+_, _*_, _/_, _^_, _<_, _≤_};
 ghost use lib.ListN.{length};
@@ -11,8 +11,6 @@ use crate::rows::find_row;
 use crate::rows::row_value_at;
 use crate::rows::word_at;
 use loc_leaf::Kind;
-use loc_leaf::delta_loc::inline_value;
-use loc_leaf::loc_simd::block_total;
 use loc_leaf::loc_simd::first_total;
 use loc_leaf::loc_simd::lowest_record;
 use loc_leaf::loc_simd::none_empty;
@@ -21,7 +19,7 @@ use loc_leaf::loc_simd::row_mask;
 use loc_leaf::loc_simd::second_total;
 use loc_leaf::loc_simd::strides_total;
 
-// The sums after the blocks from one on that are neither marked nor need a row, paired.
+// The sums after the blocks from one on that are neither marked nor need a row.
 fn pair_plain(bytes: &[u8], full: usize, mark: &[u64], stamp: u64, s: Sums) -> Sums
     requires { ⌜ (s .block ≤ full) × (full ≤ 128) × (full ≤ length (now mark)) × (16 * full ≤ length (now bytes)) × (s .strides < 2 ^ 60) × (s .spans < 2 ^ 60) ⌝ }
     ensures { λ r. ⌜ PlainBlocks Paired (now (bytes .entry)) (now (mark .entry)) stamp full s r ⌝ }
@@ -61,7 +59,82 @@ fn pair_plain(bytes: &[u8], full: usize, mark: &[u64], stamp: u64, s: Sums) -> S
     }
 }
 
-// The same, single.
+// What a mask says of the records after record z: its bits above bit z.
+pub fn mask_after(mask: u64, z: usize) -> u64
+    requires { ⌜ z < 8 ⌝ }
+    ensures { λ r. ⌜ r ≡ mask / 2 ^ (z + 1) ⌝ }
+{
+    mask >> (z as u64 + 1)
+}
+
+// One block of which some records need rows: its bytes added up, then each such record's row put in place of its bytes.
+fn pair_rows(bytes: &[u8], rows: &[u8], count: usize, base: u64, s: Sums) -> Step
+    requires { ⌜ BlockReady Paired base (now bytes) (now rows) count (s .block + 1) s ⌝ }
+    ensures { λ r. ⌜ BlockStepped Paired base (now (bytes .entry)) (now (rows .entry)) (s .block) r ⌝ }
+{
+    let lo = word_at(bytes, 16 * s.block);
+    let hi = word_at(bytes, 16 * s.block + 8);
+    let mut x = s.strides + first_total(lo, hi);
+    let mut y = s.spans + second_total(lo, hi);
+    let mut row = s.row;
+    let mut left = row_mask(Kind::Paired, lo, hi);
+    let mut j = 8 * s.block;
+    while left != 0 {
+        let z = lowest_record(left as u8) as usize;
+        j += z;
+        row = find_row(Kind::Paired, rows, count, row, base + j as u64 + 1);
+        if row == count {
+            return Step::Lack;
+        }
+        let v = row_value_at(Kind::Paired, rows, count, row);
+        x = x - bytes[2 * j] as u64 + v.strides as u64;
+        y = y - bytes[2 * j + 1] as u64 + v.spans as u64;
+        row += 1;
+        j += 1;
+        left = mask_after(left, z);
+    }
+    Step::Next(Sums {
+        strides: x,
+        spans: y,
+        row,
+        block: s.block + 1,
+    })
+}
+
+// The sums up to a marked block or to the end of the whole blocks.
+fn pair_blocks(
+    bytes: &[u8],
+    full: usize,
+    mark: &[u64],
+    stamp: u64,
+    rows: &[u8],
+    count: usize,
+    base: u64,
+    s: Sums,
+) -> Step
+    requires { ⌜ BlockReady Paired base (now bytes) (now rows) count full s × (full ≤ length (now mark)) ⌝ }
+    ensures { λ r. ⌜ BlocksPassed Paired base (now (bytes .entry)) (now (rows .entry)) (now (mark .entry)) stamp (s .block) full r ⌝ }
+{
+    let mut t = pair_plain(bytes, full, mark, stamp, s);
+    while t.block < full {
+        let b = t.block;
+        if mark[b] == stamp {
+            return Step::Next(t);
+        }
+        let step = pair_rows(bytes, rows, count, base, t);
+        match step {
+            Step::Next(u) => {
+                t = pair_plain(bytes, full, mark, stamp, u);
+            }
+            Step::Lack => {
+                return Step::Lack;
+            }
+        }
+    }
+    Step::Next(t)
+}
+
+// The sums after the blocks from one on that are neither marked nor need a row.
 fn single_plain(bytes: &[u8], full: usize, mark: &[u64], stamp: u64, s: Sums) -> Sums
     requires { ⌜ (s .block ≤ full) × (full ≤ 128) × (full ≤ length (now mark)) × (16 * full ≤ length (now bytes)) × (s .strides < 2 ^ 60) × (s .spans < 2 ^ 60) ⌝ }
     ensures { λ r. ⌜ PlainBlocks Single (now (bytes .entry)) (now (mark .entry)) stamp full s r ⌝ }
@@ -99,62 +172,72 @@ fn single_plain(bytes: &[u8], full: usize, mark: &[u64], stamp: u64, s: Sums) ->
     }
 }
 
-// The same, by kind.
-fn plain(kind: Kind, bytes: &[u8], full: usize, mark: &[u64], stamp: u64, s: Sums) -> Sums
-    requires { ⌜ (s .block ≤ full) × (full ≤ 128) × (full ≤ length (now mark)) × (16 * full ≤ length (now bytes)) × (s .strides < 2 ^ 60) × (s .spans < 2 ^ 60) ⌝ }
-    ensures { λ r. ⌜ PlainBlocks kind (now (bytes .entry)) (now (mark .entry)) stamp full s r ⌝ }
-{
-    match kind {
-        Kind::Paired => pair_plain(bytes, full, mark, stamp, s),
-        Kind::Single => single_plain(bytes, full, mark, stamp, s),
-    }
-}
-
-// What a mask says of the records after record z: its bits above bit z.
-pub fn mask_after(mask: u64, z: usize) -> u64
-    requires { ⌜ z < 8 ⌝ }
-    ensures { λ r. ⌜ r ≡ mask / 2 ^ (z + 1) ⌝ }
-{
-    mask >> (z as u64 + 1)
-}
-
 // One block of which some records need rows: its bytes added up, then each such record's row put in place of its bytes.
-fn block_rows(kind: Kind, bytes: &[u8], rows: &[u8], count: usize, base: u64, s: Sums) -> Step
-    requires { ⌜ BlockReady kind base (now bytes) (now rows) count (s .block + 1) s ⌝ }
-    ensures { λ r. ⌜ BlockStepped kind base (now (bytes .entry)) (now (rows .entry)) (s .block) r ⌝ }
+fn single_rows(bytes: &[u8], rows: &[u8], count: usize, base: u64, s: Sums) -> Step
+    requires { ⌜ BlockReady Single base (now bytes) (now rows) count (s .block + 1) s ⌝ }
+    ensures { λ r. ⌜ BlockStepped Single base (now (bytes .entry)) (now (rows .entry)) (s .block) r ⌝ }
 {
     let lo = word_at(bytes, 16 * s.block);
     let hi = word_at(bytes, 16 * s.block + 8);
-    let total = block_total(kind, lo, hi);
-    let mut x = s.strides + total.strides as u64;
-    let mut y = s.spans + total.spans as u64;
+    let mut x = s.strides + strides_total(lo, hi);
     let mut row = s.row;
-    let mut left = row_mask(kind, lo, hi);
+    let mut left = row_mask(Kind::Single, lo, hi);
     let mut j = 8 * s.block;
     while left != 0 {
         let z = lowest_record(left as u8) as usize;
         j += z;
-        row = find_row(kind, rows, count, row, base + j as u64 + 1);
+        row = find_row(Kind::Single, rows, count, row, base + j as u64 + 1);
         if row == count {
             return Step::Lack;
         }
-        let v = row_value_at(kind, rows, count, row);
-        let b = inline_value(kind, bytes[2 * j], bytes[2 * j + 1]);
-        x = x - b.strides as u64 + v.strides as u64;
-        y = y - b.spans as u64 + v.spans as u64;
+        let v = row_value_at(Kind::Single, rows, count, row);
+        x += v.strides as u64;
         row += 1;
         j += 1;
         left = mask_after(left, z);
     }
     Step::Next(Sums {
         strides: x,
-        spans: y,
+        spans: s.spans,
         row,
         block: s.block + 1,
     })
 }
 
 // The sums up to a marked block or to the end of the whole blocks.
+fn single_blocks(
+    bytes: &[u8],
+    full: usize,
+    mark: &[u64],
+    stamp: u64,
+    rows: &[u8],
+    count: usize,
+    base: u64,
+    s: Sums,
+) -> Step
+    requires { ⌜ BlockReady Single base (now bytes) (now rows) count full s × (full ≤ length (now mark)) ⌝ }
+    ensures { λ r. ⌜ BlocksPassed Single base (now (bytes .entry)) (now (rows .entry)) (now (mark .entry)) stamp (s .block) full r ⌝ }
+{
+    let mut t = single_plain(bytes, full, mark, stamp, s);
+    while t.block < full {
+        let b = t.block;
+        if mark[b] == stamp {
+            return Step::Next(t);
+        }
+        let step = single_rows(bytes, rows, count, base, t);
+        match step {
+            Step::Next(u) => {
+                t = single_plain(bytes, full, mark, stamp, u);
+            }
+            Step::Lack => {
+                return Step::Lack;
+            }
+        }
+    }
+    Step::Next(t)
+}
+
+// The sums up to a marked block, by kind.
 pub fn blocks(
     kind: Kind,
     bytes: &[u8],
@@ -169,21 +252,8 @@ pub fn blocks(
     requires { ⌜ BlockReady kind base (now bytes) (now rows) count full s × (full ≤ length (now mark)) ⌝ }
     ensures { λ r. ⌜ BlocksPassed kind base (now (bytes .entry)) (now (rows .entry)) (now (mark .entry)) stamp (s .block) full r ⌝ }
 {
-    let mut t = plain(kind, bytes, full, mark, stamp, s);
-    while t.block < full {
-        let b = t.block;
-        if mark[b] == stamp {
-            return Step::Next(t);
-        }
-        let step = block_rows(kind, bytes, rows, count, base, t);
-        match step {
-            Step::Next(u) => {
-                t = plain(kind, bytes, full, mark, stamp, u);
-            }
-            Step::Lack => {
-                return Step::Lack;
-            }
-        }
+    match kind {
+        Kind::Paired => pair_blocks(bytes, full, mark, stamp, rows, count, base, s),
+        Kind::Single => single_blocks(bytes, full, mark, stamp, rows, count, base, s),
     }
-    Step::Next(t)
 }

@@ -1,83 +1,29 @@
--- `blocks` passes blocks up to a marked one.
+-- `loc_window::blocks::blocks` meets its contract.
 use borrow.Author.Needs.{needs}
-use Prim.Native.Nat.{_-_}
-use native.Mathlib.Omega.{arith}
-use Rattle.loc_window.specs.Window.{BlocksAfter}
-use Rattle.loc_window.proofs.SumLaws.{after-small}
-use Rattle.loc_window.proofs.BlocksLaws.{blocks-begin, blocks-join, blocks-next, stepped-next, stepped-lack}
+use denote.Ref.{now}
+use Rattle.loc_window.proofs.BlocksLaws.{kind-ready, kind-passed}
 use Rattle.loc_window.proofs.blocks.blocks.Statement.{statement}
 use Rattle.loc_window.proofs.blocks.blocks.Tie as tie
 
-abbrev Inv-loop : tie.InvT-loop
-Inv-loop kind bytes full mark stamp rows count base t₀ t = BlocksAfter kind base bytes rows mark stamp (t₀ .block) full t
-
-abbrev μ-loop : tie.MeasureT-loop
-μ-loop kind bytes full mark stamp rows count base t₀ t = full - t .block
-
-plain-requires : tie.Need-plain-requires Inv-loop μ-loop
-plain-requires c κs = (c .before .before .before .pre .0 .order, c .before .before .before .pre .0 .few, c .before .before .before .pre .1, c .before .before .before .pre .0 .copied, omega (arith, after-small _ _ _ _ _ _ (omega (arith, c .before .before .before .pre .0 .order, c .before .before .before .pre .0 .few)) (c .before .before .before .pre .0 .after) .0), omega (arith, after-small _ _ _ _ _ _ (omega (arith, c .before .before .before .pre .0 .order, c .before .before .before .pre .0 .few)) (c .before .before .before .pre .0 .after) .1))
-
-loop-holds : tie.Need-loop-holds Inv-loop μ-loop
-loop-holds c = blocks-begin _ _ _ _ _ _ _ _ _ (c .before .before .before .before .pre .0 .few) (c .before .before .before .before .pre .0 .after) (c .plain .ensures)
-
-mul-if2 : tie.Need-mul-if2 Inv-loop μ-loop
-mul-if2 c = search needs
-
-shared-slice-read-if2 : tie.Need-shared-slice-read-if2 Inv-loop μ-loop
-shared-slice-read-if2 c = search needs
-
-returns : tie.Need-returns Inv-loop μ-loop
-returns c = blocks-join _ _ _ _ _ _ _ _ _ _ (c .before .before .before .before .before .plain .ensures) (c .before .before .before .before .loop .inv)
-
-block-rows-requires : tie.Need-block-rows-requires Inv-loop μ-loop
-block-rows-requires c κs = record {
-  order = omega arith;
-  few = omega (arith, c .before .before .if1 .taken, c .before .before .before .before .before .before .before .before .before .pre .0 .few);
-  copied = omega (arith, c .before .before .if1 .taken, c .before .before .before .before .before .before .before .before .before .pre .0 .copied);
-  numbers = c .before .before .before .before .before .before .before .before .before .pre .0 .numbers;
-  rise = c .before .before .before .before .before .before .before .before .before .pre .0 .rise;
-  after = c .before .before .before .before .loop .inv .after;
-}
-
-enum-known-step : tie.Need-enum-known-step Inv-loop μ-loop
-enum-known-step c = search needs
-
-plain-requires-2 : tie.Need-plain-requires-2 Inv-loop μ-loop
-plain-requires-2 c κs = let u = stepped-next _ _ _ _ _ (c .before .before .before .block-rows .result) (c .before .before .before .block-rows .ensures) (c .before .step .given .0 .0) (c .before .step .given .1) in
-    let l = after-small _ _ _ _ _ _ (omega (arith, u .0, c .before .before .before .before .before .before .if1 .taken, c .before .before .before .before .before .before .before .before .before .before .before .before .before .pre .0 .few)) (u .1) in
-    (omega (arith, u .0, c .before .before .before .before .before .before .if1 .taken), c .before .before .before .before .before .before .before .before .before .before .before .before .before .pre .0 .few, c .before .before .before .before .before .before .before .before .before .before .before .before .before .pre .1, c .before .before .before .before .before .before .before .before .before .before .before .before .before .pre .0 .copied, omega (arith, l .0), omega (arith, l .1))
-
-loop-less : tie.Need-loop-less Inv-loop μ-loop
-loop-less c = omega (arith, c .before .before .before .before .before .before .before .if1 .taken, c .plain2 .ensures .more, stepped-next _ _ _ _ _ (c .before .before .before .before .block-rows .result) (c .before .before .before .before .block-rows .ensures) (c .before .before .step .given .0 .0) (c .before .before .step .given .1) .0)
-
-loop-again : tie.Need-loop-again Inv-loop μ-loop
-loop-again c = blocks-next _ _ _ _ _ _ _ _ _ _ _ (c .before .before .before .before .before .before .before .before .before .before .before .before .before .before .pre .0 .few) (c .before .before .before .before .before .before .before .before .before .loop .inv) (c .before .before .before .before .before .if2 .left) (stepped-next _ _ _ _ _ (c .before .before .before .before .block-rows .result) (c .before .before .before .before .block-rows .ensures) (c .before .before .step .given .0 .0) (c .before .before .step .given .1)) (c .plain2 .ensures)
-
-enum-told : tie.Need-enum-told Inv-loop μ-loop
+enum-told : tie.Need-enum-told
 enum-told c = search needs
 
-returns-2 : tie.Need-returns-2 Inv-loop μ-loop
-returns-2 c = stepped-lack _ _ _ _ _ (c .before .before .block-rows .result) (c .before .before .block-rows .ensures) _ (c .enum-told .given .1) (c .before .before .before .before .before .if1 .taken)
+pair-blocks-requires : tie.Need-pair-blocks-requires
+pair-blocks-requires c κs = (kind-ready _ _ _ _ _ _ _ _ (c .enum-told .given .1) (c .before .before .before .before .before .pre .0), c .before .before .before .before .before .pre .1)
 
-returns-3 : tie.Need-returns-3 Inv-loop μ-loop
-returns-3 c = blocks-join _ _ _ _ _ _ _ _ _ _ (c .before .before .before .plain .ensures) (c .before .before .loop .inv)
+enum-told-2 : tie.Need-enum-told-2
+enum-told-2 c = search needs
+
+single-blocks-requires : tie.Need-single-blocks-requires
+single-blocks-requires c κs = (kind-ready _ _ _ _ _ _ _ _ (c .enum-told2 .given .1) (c .before .before .before .before .before .pre .0), c .before .before .before .before .before .pre .1)
+
+returns : tie.Need-returns
+returns c = kind-passed _ _ (c .before .before .before .before .before .before .args .base) (now (c .before .before .before .before .before .before .args .bytes)) (now (c .before .before .before .before .before .before .args .rows)) (now (c .before .before .before .before .before .before .args .mark)) (c .before .before .before .before .before .before .args .stamp) (c .before .before .before .before .before .before .args .s .block) (c .before .before .before .before .before .before .args .full) (c .pair-blocks .result) (c .before .enum-told .given .1) (c .pair-blocks .ensures)
+
+returns-2 : tie.Need-returns-2
+returns-2 c = kind-passed _ _ (c .before .before .before .before .before .before .args .base) (now (c .before .before .before .before .before .before .args .bytes)) (now (c .before .before .before .before .before .before .args .rows)) (now (c .before .before .before .before .before .before .args .mark)) (c .before .before .before .before .before .before .args .stamp) (c .before .before .before .before .before .before .args .s .block) (c .before .before .before .before .before .before .args .full) (c .single-blocks .result) (c .before .enum-told2 .given .1) (c .single-blocks .ensures)
 
 pub blocks-spec : {M : Type 1} → statement M
 blocks-spec =
     tie.close
-    (tie.spec
-    Inv-loop
-    μ-loop
-    plain-requires
-    loop-holds
-    mul-if2
-    shared-slice-read-if2
-    returns
-    block-rows-requires
-    enum-known-step
-    plain-requires-2
-    loop-less
-    loop-again
-    enum-told
-    returns-2
-    returns-3)
+    (tie.spec enum-told pair-blocks-requires enum-told-2 single-blocks-requires returns returns-2)
