@@ -1,13 +1,8 @@
-// A batch's refusals, the bytes that it stages, and the four places of an append.
+// A batch's records: their refusals, and the bytes that they stage.
 // An inner crate: some functions have a `requires`, which their callers prove.
-pub mod append;
 pub mod batch;
 pub mod entry;
-pub mod plan;
-pub mod run;
 pub mod staging;
-
-use loc_store::Lengths;
 
 // One record of a batch.
 pub struct Record {
@@ -15,18 +10,4 @@ pub struct Record {
     pub len: u64,
     pub span_start: u64,
     pub spans: u32,
-}
-
-// What an append of n records after `base` others is to store: bytes past the old ends, then the new ends.
-pub struct Stage {
-    pub base: u64,
-    pub n: usize,
-    pub old: Lengths,
-    pub new: Lengths,
-}
-
-// A refusal, or 0 and the stage.
-pub struct Decision {
-    pub number: u64,
-    pub stage: Stage,
 }

@@ -4,7 +4,7 @@ ghost use Rattle.loc_calls.specs.Areas.{areas};
 ghost use Rattle.loc_calls.specs.Promises.{Stored};
 ghost use Rattle.loc_parse.specs.Import.{appendListing};
 ghost use Rattle.loc_parse.specs.Lists.{Room};
-use loc_batch::run::append_settled;
+use loc_append::run::append_settled;
 use loc_leaf::Answer;
 use loc_leaf::Kind;
 use loc_leaf::refusal::ACCEPTED;

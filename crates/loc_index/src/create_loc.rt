@@ -47,7 +47,7 @@ pub fn append_run(
     ensures { λ r. ⌜ Stored (call Paired places (append (batch (now («body_starts» .entry)) (now («body_lens» .entry)) (now («span_starts» .entry)) (now («span_counts» .entry))))
         (areas (now (slots .entry)) (now (rows .entry)) (now (checkpoints .entry)))) r (areas (now (slots .exit)) (now (rows .exit)) (now (checkpoints .exit))) ⌝ }
 {
-    loc_batch::run::append_run(
+    loc_append::run::append_run(
         Kind::Paired,
         slots,
         rows,

@@ -45,7 +45,7 @@ pub fn append_run(
 {
     let span_starts = [0u64; 0];
     let span_counts = [0u32; 0];
-    loc_batch::run::append_run(
+    loc_append::run::append_run(
         Kind::Single,
         slots,
         rows,

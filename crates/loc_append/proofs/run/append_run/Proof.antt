@@ -1,9 +1,9 @@
--- `loc_batch::run::append_run` meets its contract.
+-- `loc_append::run::append_run` meets its contract.
 -- A refusal by 1 or 6 leaves the areas.
 use borrow.Author.Needs.{needs}
-use Rattle.loc_batch.proofs.RunLaws.{append-refused}
-use Rattle.loc_batch.proofs.run.append_run.Statement.{statement}
-use Rattle.loc_batch.proofs.run.append_run.Tie as tie
+use Rattle.loc_append.proofs.RunLaws.{append-refused}
+use Rattle.loc_append.proofs.run.append_run.Statement.{statement}
+use Rattle.loc_append.proofs.run.append_run.Tie as tie
 
 check-areas-requires : tie.Need-check-areas-requires
 check-areas-requires c κs = search needs

@@ -16,10 +16,10 @@ use Rattle.loc_calls.specs.Table.{Entry}
 use Rattle.loc_calls.specs.Stores.{Place, keep, write, step, run, gather, slotOf, rowOf, checkpointOf, staged}
 use Rattle.loc_store.specs.Plans.{fitted}
 use Rattle.loc_store.proofs.StoreLaws.{step-slots, step-rows, step-checkpoints, run-done}
 use Rattle.loc_batch.proofs.StageLaws.{store-tail}
 use Rattle.loc_batch.specs.Lists.{Room, Staged}
-use Rattle.loc_batch.specs.Plans.{stagePlaces, RoomPast}
-use Rattle.loc_batch.specs.declared.Stage.{Stage}
+use Rattle.loc_append.specs.Plans.{stagePlaces, RoomPast}
+use Rattle.loc_append.specs.declared.Stage.{Stage}
 
 -- ---- a part that was lent
 

@@ -1,11 +1,11 @@
--- `loc_batch::plan::plan_append` meets its contract.
+-- `loc_append::plan::plan_append` meets its contract.
 -- A law for each way through the tests.
 use mathlib.Core.Path.{refl, sym, _∙_}
 use native.Mathlib.Omega.{arith}
 use borrow.Author.Needs.{needs}
-use Rattle.loc_batch.proofs.PlanLaws.{plan-empty, plan-refused, plan-reached, plan-uneven, ends-inside, all-held}
-use Rattle.loc_batch.proofs.plan.plan_append.Statement.{statement}
-use Rattle.loc_batch.proofs.plan.plan_append.Tie as tie
+use Rattle.loc_append.proofs.PlanLaws.{plan-empty, plan-refused, plan-reached, plan-uneven, ends-inside, all-held}
+use Rattle.loc_append.proofs.plan.plan_append.Statement.{statement}
+use Rattle.loc_append.proofs.plan.plan_append.Tie as tie
 
 lists-agree-requires : tie.Need-lists-agree-requires
 lists-agree-requires c κs = search needs

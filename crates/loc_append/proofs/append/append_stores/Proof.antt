@@ -6,13 +6,13 @@ use mathlib.Core.Path.{_≡_, refl}
 use native.Mathlib.Omega.{arith}
 use Rattle.loc_calls.specs.Table.{batch}
 use Rattle.loc_store.proofs.StoreLaws.{run-turn}
-use Rattle.loc_batch.proofs.AppendLaws.{room-first, run-end}
+use Rattle.loc_append.proofs.AppendLaws.{room-first, run-end}
 use Rattle.loc_batch.specs.Lists.{entryAt, listed}
-use Rattle.loc_batch.specs.Plans.{stagePlaces}
+use Rattle.loc_append.specs.Plans.{stagePlaces}
 use Rattle.loc_calls.specs.Areas.{areas}
 use Rattle.loc_calls.specs.Stores.{run}
-use Rattle.loc_batch.proofs.append.append_stores.Statement.{statement}
-use Rattle.loc_batch.proofs.append.append_stores.Tie as tie
+use Rattle.loc_append.proofs.append.append_stores.Statement.{statement}
+use Rattle.loc_append.proofs.append.append_stores.Tie as tie
 
 abbrev Inv-loop : tie.InvT-loop
 Inv-loop slots₀ rows₀ checkpoints₀ kind starts lens span-starts span-counts t s last i₀ slots rows checkpoints i =

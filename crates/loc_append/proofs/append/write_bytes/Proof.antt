@@ -1,8 +1,8 @@
 -- `append::write_bytes` meets its contract.
 use borrow.Author.Needs.{needs}
-use Rattle.loc_batch.proofs.AppendLaws.{lent-room, bytes-written}
-use Rattle.loc_batch.proofs.append.write_bytes.Statement.{statement}
-use Rattle.loc_batch.proofs.append.write_bytes.Tie as tie
+use Rattle.loc_append.proofs.AppendLaws.{lent-room, bytes-written}
+use Rattle.loc_append.proofs.append.write_bytes.Statement.{statement}
+use Rattle.loc_append.proofs.append.write_bytes.Tie as tie
 
 logical-len-requires : tie.Need-logical-len-requires
 logical-len-requires c κs = search needs

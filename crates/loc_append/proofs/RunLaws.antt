@@ -17,10 +17,10 @@ use Rattle.loc_calls.specs.Promises.{Stored}
 use Rattle.loc_calls.proofs.Outcomes.{refused, accepted, refusal-after}
 use Rattle.loc_store.specs.declared.Checked.{Checked}
 use Rattle.loc_store.specs.Areas.{Checks}
 use Rattle.loc_batch.specs.Lists.{entryAt, listed, Held}
-use Rattle.loc_batch.specs.Plans.{stagePlaces, RoomPast, Ready, Planned}
-use Rattle.loc_batch.specs.declared.Stage.{Stage}
-use Rattle.loc_batch.specs.declared.Decision.{Decision}
+use Rattle.loc_append.specs.Plans.{stagePlaces, RoomPast, Ready, Planned}
+use Rattle.loc_append.specs.declared.Stage.{Stage}
+use Rattle.loc_append.specs.declared.Decision.{Decision}
 
 pub places-are : (k : Kind) (a : Areas) (es : List Entry) (t : Stage) → Ready k a es t → stagePlaces k es t ≡ appendPlaces a (staged k (count a) es)
 unfolding stagePlaces appendPlaces staged

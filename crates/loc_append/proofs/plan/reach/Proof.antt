@@ -2,9 +2,9 @@
 use borrow.Author.Needs.{needs}
 use mathlib.Core.Path.{refl}
 use native.Mathlib.Omega.{arith}
-use Rattle.loc_batch.proofs.PlanLaws.{reach-slots, reach-rows, reach-checkpoints, reach-done}
-use Rattle.loc_batch.proofs.plan.reach.Statement.{statement}
-use Rattle.loc_batch.proofs.plan.reach.Tie as tie
+use Rattle.loc_append.proofs.PlanLaws.{reach-slots, reach-rows, reach-checkpoints, reach-done}
+use Rattle.loc_append.proofs.plan.reach.Statement.{statement}
+use Rattle.loc_append.proofs.plan.reach.Tie as tie
 
 row-width-requires : tie.Need-row-width-requires
 row-width-requires c κs = search needs

@@ -1,8 +1,8 @@
 -- `append::append_step` meets its contract.
 use borrow.Author.Needs.{needs}
-use Rattle.loc_batch.proofs.AppendLaws.{place-bytes, place-slots, place-rows, place-checkpoints, place-none}
-use Rattle.loc_batch.proofs.append.append_step.Statement.{statement}
-use Rattle.loc_batch.proofs.append.append_step.Tie as tie
+use Rattle.loc_append.proofs.AppendLaws.{place-bytes, place-slots, place-rows, place-checkpoints, place-none}
+use Rattle.loc_append.proofs.append.append_step.Statement.{statement}
+use Rattle.loc_append.proofs.append.append_step.Tie as tie
 
 write-bytes-requires : tie.Need-write-bytes-requires
 write-bytes-requires c κs = (c .before .before .before .before .before .before .before .before .before .before .before .before .before .pre .0 (c .before .before .before .if1 .taken), c .before .before .before .before .before .before .before .before .before .before .before .before .before .pre .1)

@@ -29,13 +29,13 @@ use Rattle.loc_calls.proofs.Gathered.{widths-slots, widths-rows, widths-checkpo
 use Rattle.loc_store.specs.declared.Lengths.{Lengths}
 use Rattle.loc_store.specs.declared.Checked.{Checked}
 use Rattle.loc_store.specs.Areas.{EndsOf, Checks}
 use Rattle.loc_batch.specs.Lists.{entryAt, asEntry, listed, Held, rowTotal, Tested}
 use Rattle.loc_batch.proofs.EntryLaws.{starts-even, spans-even}
 use Rattle.loc_batch.proofs.BatchLaws.{rows-staged}
-use Rattle.loc_batch.specs.Plans.{TestedOn, windows, reached, Reaches, Ready, RoomPast, Planned}
+use Rattle.loc_append.specs.Plans.{TestedOn, windows, reached, Reaches, Ready, RoomPast, Planned}
 use Rattle.loc_batch.specs.declared.Record.{Record}
-use Rattle.loc_batch.specs.declared.Stage.{Stage}
-use Rattle.loc_batch.specs.declared.Decision.{Decision}
+use Rattle.loc_append.specs.declared.Stage.{Stage}
+use Rattle.loc_append.specs.declared.Decision.{Decision}
 
 -- ---- an end past its area
 

@@ -16,9 +16,9 @@ use Rattle.loc_calls.specs.Stores.{Place, slotLength, rowLength, checkpointLeng
 use Rattle.loc_calls.specs.Reading.{endRead}
 use Rattle.loc_calls.specs.Calls.{tableOf}
 use Rattle.loc_store.specs.declared.Lengths.{Lengths}
 use Rattle.loc_batch.specs.Lists.{entryAt, listed, rowTotal, Held, Room}
-use Rattle.loc_batch.specs.declared.Stage.{Stage}
-use Rattle.loc_batch.specs.declared.Decision.{Decision}
+use Rattle.loc_append.specs.declared.Stage.{Stage}
+use Rattle.loc_append.specs.declared.Decision.{Decision}
 
 -- bytes, then lengths of slots, rows, checkpoints
 unfoldable pub stagePlaces : Kind → List Entry → Stage → List Place

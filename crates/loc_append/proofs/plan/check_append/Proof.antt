@@ -1,9 +1,9 @@
--- `loc_batch::plan::check_append` meets its contract.
+-- `loc_append::plan::check_append` meets its contract.
 -- The tests of the first starts come before those of the records.
 use borrow.Author.Needs.{needs}
-use Rattle.loc_batch.proofs.PlanLaws.{start-refused, start-passed}
-use Rattle.loc_batch.proofs.plan.check_append.Statement.{statement}
-use Rattle.loc_batch.proofs.plan.check_append.Tie as tie
+use Rattle.loc_append.proofs.PlanLaws.{start-refused, start-passed}
+use Rattle.loc_append.proofs.plan.check_append.Statement.{statement}
+use Rattle.loc_append.proofs.plan.check_append.Tie as tie
 
 record-at-requires : tie.Need-record-at-requires
 record-at-requires c κs = search needs

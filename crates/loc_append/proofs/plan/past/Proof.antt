@@ -1,8 +1,8 @@
 -- `plan::past` meets its contract.
 use borrow.Author.Needs.{needs}
-use Rattle.loc_batch.proofs.PlanLaws.{past-is, not-past}
-use Rattle.loc_batch.proofs.plan.past.Statement.{statement}
-use Rattle.loc_batch.proofs.plan.past.Tie as tie
+use Rattle.loc_append.proofs.PlanLaws.{past-is, not-past}
+use Rattle.loc_append.proofs.plan.past.Statement.{statement}
+use Rattle.loc_append.proofs.plan.past.Tie as tie
 
 sub-room : tie.Need-sub-room
 sub-room c = search needs

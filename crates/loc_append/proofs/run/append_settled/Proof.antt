@@ -1,9 +1,9 @@
--- `loc_batch::run::append_settled` meets its contract.
+-- `loc_append::run::append_settled` meets its contract.
 -- A refusal leaves the areas; else the stage is that of the areas at entry, and the run is over its places.
 use borrow.Author.Needs.{needs}
-use Rattle.loc_batch.proofs.RunLaws.{append-planned, append-room, append-held, append-done}
-use Rattle.loc_batch.proofs.run.append_settled.Statement.{statement}
-use Rattle.loc_batch.proofs.run.append_settled.Tie as tie
+use Rattle.loc_append.proofs.RunLaws.{append-planned, append-room, append-held, append-done}
+use Rattle.loc_append.proofs.run.append_settled.Statement.{statement}
+use Rattle.loc_append.proofs.run.append_settled.Tie as tie
 
 plan-append-requires : tie.Need-plan-append-requires
 plan-append-requires c κs = search needs

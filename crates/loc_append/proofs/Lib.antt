@@ -1,0 +1,3 @@
+pub mod AppendLaws
+pub mod PlanLaws
+pub mod RunLaws
