@@ -1,18 +1,17 @@
 -- Words stored one by one at a place, the answers of a run of keys, and a copy of words.
 -- A run takes one key more at each turn, whatever words are right elsewhere.
-use Prim.Native.Nat.{ℕ, suc, _+_, _-_, _*_, _/_, _^_, _<_, _≤_, min}
+use Prim.Native.Nat.{ℕ, zero, suc, _+_, _-_, _*_, _^_, _<_, _≤_, min}
 use mathlib.Core.Path.{_≡_, refl, sym, ap, _∙_}
 use mathlib.Core.Logic.{⊎-elim}
 use mathlib.Core.List.{List, [], _∷_, _++_}
-use native.Mathlib.Nat.{eq-or-lt-of-le, le-of-suc-le-suc}
+use native.Mathlib.Nat.{eq-or-lt-of-le, le-of-suc-le-suc, not-suc-le-zero}
 use native.Mathlib.Numerals.{add-one}
 use native.Mathlib.Omega.{arith}
-use lib.ListN.{length, getD, take, drop, set}
-use lib.Seq.{length-take-le, take-suc, drop-cons, append-snoc, set-at, sets, length-sets}
+use lib.ListN.{length, getD, take, drop, set, length-set}
+use lib.Seq.{getD-set-same, getD-set-other, length-take-le, take-suc, drop-cons, append-snoc, set-at, sets, length-sets}
 use Rattle.loc_leaf.specs.declared.Kind.{Kind}
 use Rattle.loc_leaf.specs.declared.Kind.the-variants.{Paired, Single}
 use Rattle.loc_leaf.specs.Kind.{withinWindow}
-use Rattle.loc_leaf.proofs.NumberLaws.{sets-below, sets-above, sets-at}
 use Rattle.loc_calls.specs.Table.{wordWidth}
 use Rattle.loc_calls.specs.Reading.{words}
 use Rattle.loc_order.specs.Keys.{placesFrom, placeOf, wantedBy}
@@ -21,6 +20,23 @@ use Rattle.loc_answer.specs.Words.{Has, Put, Summed, sumWords, RunSafe, 
 use Rattle.loc_answer.proofs.AnswerLaws.{place-below, put-keeps}
 
 -- ---- words stored one by one
+
+sets-below : (ws o : List ℕ) (i x : ℕ) → x < i → getD (sets o i ws) x 0 ≡ getD o x 0
+sets-below [] o i x h = refl
+sets-below (a ∷ ws) o i x h = sets-below ws (set o i a) (suc i) x (omega arith) ∙ getD-set-other o i x a 0 (λ e. omega arith)
+
+sets-above : (ws o : List ℕ) (i x : ℕ) → i + length ws ≤ x → getD (sets o i ws) x 0 ≡ getD o x 0
+sets-above [] o i x h = refl
+sets-above (a ∷ ws) o i x h = sets-above ws (set o i a) (suc i) x (omega arith) ∙ getD-set-other o i x a 0 (λ e. omega arith)
+
+sets-at : (ws o : List ℕ) (i q : ℕ) → i + length ws ≤ length o → q < length ws → getD (sets o i ws) (i + q) 0 ≡ getD ws q 0
+sets-at [] o i q h g = absurd (not-suc-le-zero g)
+sets-at (a ∷ ws) o i zero h g =
+    let z : i + 0 ≡ i = omega arith in
+    ap (λ (n : ℕ). getD (sets (set o i a) (suc i) ws) n 0) z ∙ sets-below ws (set o i a) (suc i) i (omega arith) ∙ getD-set-same o i a 0 (omega arith)
+sets-at (a ∷ ws) o i (suc q) h g =
+    let z : i + suc q ≡ suc i + q = omega arith in
+    ap (λ (n : ℕ). getD (sets (set o i a) (suc i) ws) n 0) z ∙ sets-at ws (set o i a) (suc i) q (omega (arith, length-set o i a)) (omega arith)
 
 pub stored : (w : ℕ) (o : List ℕ) (p : ℕ) (ws : List ℕ) → length ws ≡ w → w * p + w ≤ length o → Put w o p ws (sets o (w * p) ws)
 unfolding Has
@@ -41,21 +57,21 @@ pub room-single : (k : Kind) (p n : ℕ) → k ≡ Single → wordWidth k * p + 
 room-single k p n e h = rw e at h
 
 -- starts saturate, lengths do not
-pub put-paired : (k : Kind) (b s : ℕ) (body span : List ℕ) (j p start spanStart : ℕ) (old new : List ℕ) → k ≡ Paired → Summed body span j
-    → start ≡ min (2 ^ 64 - 1) (b + getD body j 0) → spanStart ≡ min (2 ^ 64 - 1) (s + getD span j 0)
-    → Put 6 old p (1 ∷ start ∷ (getD body (j + 1) 0 - getD body j 0) ∷ spanStart ∷ (getD span (j + 1) 0 - getD span j 0) ∷ ((getD span (j + 1) 0 - getD span j 0) / 8) ∷ []) new
+pub put-paired : (k : Kind) (b s : ℕ) (body span : List ℕ) (j p start spanStart : ℕ) (old new : List ℕ) → k ≡ Paired
+    → start ≡ min (2 ^ 64 - 1) (b + 8 * getD body j 0) → spanStart ≡ min (2 ^ 64 - 1) (s + 8 * getD span j 0)
+    → Put 6 old p (1 ∷ start ∷ 8 * (getD body (j + 1) 0 - getD body j 0) ∷ spanStart ∷ 8 * (getD span (j + 1) 0 - getD span j 0) ∷ (getD span (j + 1) 0 - getD span j 0) ∷ []) new
     → Put (wordWidth k) old p (sumWords k b s body span j) new
 unfolding sumWords words
-put-paired k b s body span j p start spanStart old new e w a c h = rw (e, ← a, ← c, w .bodyWhole, w .spanWhole) h
+put-paired k b s body span j p start spanStart old new e a c h = rw (e, ← a, ← c) h
 
 -- the length is the difference of saturated ends
-pub put-single : (k : Kind) (b s : ℕ) (body span : List ℕ) (j p start end : ℕ) (old new : List ℕ) → k ≡ Single → Summed body span j
-    → start ≡ min (2 ^ 64 - 1) (b + getD body j 0) → end ≡ min (2 ^ 64 - 1) (b + getD body (j + 1) 0)
+pub put-single : (k : Kind) (b s : ℕ) (body span : List ℕ) (j p start end : ℕ) (old new : List ℕ) → k ≡ Single
+    → getD body j 0 ≤ getD body (j + 1) 0 → start ≡ min (2 ^ 64 - 1) (b + 8 * getD body j 0) → end ≡ min (2 ^ 64 - 1) (b + 8 * getD body (j + 1) 0)
     → Put 3 old p (1 ∷ start ∷ (end - start) ∷ []) new
     → Put (wordWidth k) old p (sumWords k b s body span j) new
 unfolding sumWords words
-put-single k b s body span j p start end old new e w a c h =
-    let z : b + getD body j 0 + 8 * ((getD body (j + 1) 0 - getD body j 0) / 8) ≡ b + getD body (j + 1) 0 = omega (arith, w .bodyWhole, w .bodyRises) in
+put-single k b s body span j p start end old new e r a c h =
+    let z : b + 8 * getD body j 0 + 8 * (getD body (j + 1) 0 - getD body j 0) ≡ b + 8 * getD body (j + 1) 0 = omega arith in
     rw (e, z, ← a, ← c) h
 
 -- ---- the answers of a run

@@ -1,6 +1,6 @@
 -- Words of answers at their places: place p of w words each begins at word w × p.
 -- A store of right words anywhere keeps what is right elsewhere, so nothing here asks that places differ.
-use Prim.Native.Nat.{ℕ, _+_, _-_, _*_, _/_, _≤_, _<_}
+use Prim.Native.Nat.{ℕ, _+_, _-_, _*_, _^_, _≤_, _<_}
 use mathlib.Core.Path.{_≡_}
 use mathlib.Core.List.{List}
 use lib.ListN.{length, getD}
@@ -21,20 +21,20 @@ pub record Put (w : ℕ) (old : List ℕ) (p : ℕ) (ws new : List ℕ) : Type 0
   pub below : (x : ℕ) → x < w * p → getD new x 0 ≡ getD old x 0
   pub above : (x : ℕ) → w * p + w ≤ x → getD new x 0 ≡ getD old x 0
 
--- the sums before and after record j of a window stand in the arrays, in bytes: they differ by whole strides and spans
+-- the sums before and after record j of a window stand in the arrays, and are low enough for eight times them
 pub record Summed (body span : List ℕ) (j : ℕ) : Type 0 where
   pub inBody : j + 1 < length body
   pub inSpan : j + 1 < length span
   pub bodyRises : getD body j 0 ≤ getD body (j + 1) 0
   pub spanRises : getD span j 0 ≤ getD span (j + 1) 0
-  pub bodyWhole : 8 * ((getD body (j + 1) 0 - getD body j 0) / 8) ≡ getD body (j + 1) 0 - getD body j 0
-  pub spanWhole : 8 * ((getD span (j + 1) 0 - getD span j 0) / 8) ≡ getD span (j + 1) 0 - getD span j 0
+  pub bodyLow : getD body (j + 1) 0 ≤ 2 ^ 60
+  pub spanLow : getD span (j + 1) 0 ≤ 2 ^ 60
 
 -- the words that these sums give record j of a window, with the ends b and s before the window
 unfoldable pub sumWords : Kind → ℕ → ℕ → List ℕ → List ℕ → ℕ → List ℕ
 sumWords k b s body span j =
-    words k (b + getD body j 0) (s + getD span j 0)
-    (record { strides = (getD body (j + 1) 0 - getD body j 0) / 8; spans = (getD span (j + 1) 0 - getD span j 0) / 8 })
+    words k (b + 8 * getD body j 0) (s + 8 * getD span j 0)
+    (record { strides = getD body (j + 1) 0 - getD body j 0; spans = getD span (j + 1) 0 - getD span j 0 })
 
 -- a run of keys whose places lie in the list and in out, and whose records' sums stand in the arrays
 pub record RunSafe (k : Kind) (ids keys : List ℕ) (from end : ℕ) (body span out : List ℕ) : Type 0 where

@@ -56,23 +56,23 @@ pub fn put_words(
     requires { ⌜ Summed (now body) (now span) j × (wordWidth kind * p + wordWidth kind ≤ length (now out)) ⌝ }
     ensures { λ _. ⌜ Put (wordWidth kind) (now (out .entry)) p (sumWords kind «body_end» «span_end» (now (body .entry)) (now (span .entry)) j) (now (out .exit)) ⌝ }
 {
-    let start = saturating_add(body_end, body[j]);
+    let start = saturating_add(body_end, 8 * body[j]);
     match kind {
         Kind::Paired => {
-            let span_len = span[j + 1] - span[j];
+            let spans = span[j + 1] - span[j];
             put_six(
                 out,
                 p,
                 1,
                 start,
-                body[j + 1] - body[j],
-                saturating_add(span_end, span[j]),
-                span_len,
-                span_len / 8,
+                8 * (body[j + 1] - body[j]),
+                saturating_add(span_end, 8 * span[j]),
+                8 * spans,
+                spans,
             );
         }
         Kind::Single => {
-            let end = saturating_add(body_end, body[j + 1]);
+            let end = saturating_add(body_end, 8 * body[j + 1]);
             put_three(out, p, 1, start, end - start);
         }
     }

@@ -1,13 +1,12 @@
 -- Reading a stored number byte by byte, and storing one: in the form in which the code meets them.
 -- Nothing is asked of a length: past the end a byte is 0, and a store does nothing.
 use Prim.Native.Nat.{ℕ, zero, suc, _+_, _-_, _*_, _/_, _%_, _≤_, _<_}
-use mathlib.Core.Path.{_≡_, refl, sym, ap, _∙_}
-use mathlib.Core.List.{List, [], _∷_}
-use native.Mathlib.Nat.{not-suc-le-zero}
+use mathlib.Core.Path.{_≡_, refl, sym, _∙_}
+use mathlib.Core.List.{[], _∷_}
 use native.Mathlib.Numerals.{add-one}
 use native.Mathlib.Omega.{arith}
-use lib.ListN.{length, getD, take, drop, set, length-set, length-drop, drop-of-length-le, List·getD-eq-default}
-use lib.Seq.{take-all, take-nil, set-out, getD-set-same, getD-set-other, sets}
+use lib.ListN.{length, take, drop, set, length-drop, drop-of-length-le, List·getD-eq-default}
+use lib.Seq.{take-all, take-nil, set-out, sets}
 use Rattle.loc_leaf.specs.Bytes.{Bytes, byte, number, bytes, numberAt, store}
 
 -- ---- reading
@@ -73,22 +72,3 @@ pub put-end : (s whole : Bytes) (to left rest : ℕ) → whole ≡ store to (byt
 unfolding store bytes
 put-end s whole to zero rest e h = sym e
 put-end s whole to (suc k) rest e h = absurd (omega arith)
-
--- ---- numbers stored one by one
-
-pub sets-below : (ws o : List ℕ) (i x : ℕ) → x < i → getD (sets o i ws) x 0 ≡ getD o x 0
-sets-below [] o i x h = refl
-sets-below (a ∷ ws) o i x h = sets-below ws (set o i a) (suc i) x (omega arith) ∙ getD-set-other o i x a 0 (λ e. omega arith)
-
-pub sets-above : (ws o : List ℕ) (i x : ℕ) → i + length ws ≤ x → getD (sets o i ws) x 0 ≡ getD o x 0
-sets-above [] o i x h = refl
-sets-above (a ∷ ws) o i x h = sets-above ws (set o i a) (suc i) x (omega arith) ∙ getD-set-other o i x a 0 (λ e. omega arith)
-
-pub sets-at : (ws o : List ℕ) (i q : ℕ) → i + length ws ≤ length o → q < length ws → getD (sets o i ws) (i + q) 0 ≡ getD ws q 0
-sets-at [] o i q h g = absurd (not-suc-le-zero g)
-sets-at (a ∷ ws) o i zero h g =
-    let z : i + 0 ≡ i = omega arith in
-    ap (λ (n : ℕ). getD (sets (set o i a) (suc i) ws) n 0) z ∙ sets-below ws (set o i a) (suc i) i (omega arith) ∙ getD-set-same o i a 0 (omega arith)
-sets-at (a ∷ ws) o i (suc q) h g =
-    let z : i + suc q ≡ suc i + q = omega arith in
-    ap (λ (n : ℕ). getD (sets (set o i a) (suc i) ws) n 0) z ∙ sets-at ws (set o i a) (suc i) q (omega (arith, length-set o i a)) (omega arith)

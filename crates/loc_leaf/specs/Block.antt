@@ -1,13 +1,11 @@
 -- The block step (document 01, "loc_simd.rs"): a block is sixteen bytes, eight records of two bytes.
 -- Its bytes are those of two words, `bytes 8 lo ++ bytes 8 hi`.
-use Prim.Native.Nat.{ℕ, zero, suc, _+_, _*_, _/_, _%_, _^_, _<_}
+use Prim.Native.Nat.{ℕ, zero, suc, _+_, _*_, _/_, _%_, _^_}
 use mathlib.Core.Bool.{cond}
 use mathlib.Core.Path.{_≡_}
 use mathlib.Core.List.{List, [], _∷_}
 use lib.Dec.{eqb}
-use lib.ListN.{getD}
 use Rattle.loc_leaf.specs.declared.Kind.{Kind}
-use Rattle.loc_leaf.specs.declared.Value.{Value}
 use Rattle.loc_leaf.specs.Bytes.{Bytes, byte}
 use Rattle.loc_leaf.specs.Slot.{needsRow, inline}
 
@@ -22,12 +20,6 @@ unfoldable pub seconds : Bytes → Bytes
 seconds [] = []
 seconds (x ∷ []) = []
 seconds (x ∷ y ∷ bs) = y ∷ seconds bs
-
--- the sixteen bits of each record
-unfoldable pub sixteens : Bytes → List ℕ
-sixteens [] = []
-sixteens (x ∷ []) = []
-sixteens (x ∷ y ∷ bs) = (x + 256 * y) ∷ sixteens bs
 
 -- the two bytes of record j's slot, counted from 0
 abbrev pub slotBytes : Bytes → ℕ → Bytes
@@ -54,8 +46,8 @@ inlineStrides k s j n = sumFrom (λ i. inline k (slotBytes s i) .strides) j n
 abbrev pub inlineSpans : Kind → Bytes → ℕ → ℕ → ℕ
 inlineSpans k s j n = sumFrom (λ i. inline k (slotBytes s i) .spans) j n
 
--- running sums of number × 8, on top of t
-unfoldable pub running : ℕ → List ℕ → List ℕ
+-- running sums of byte × 8, on top of t
+unfoldable pub running : ℕ → Bytes → List ℕ
 running t [] = []
 running t (x ∷ xs) = (t + 8 * x) ∷ running (t + 8 * x) xs
 
@@ -73,15 +65,3 @@ lanesOf (x ∷ xs) = x + 2 ^ 16 * lanesOf xs
 pub record SumsOf (bs : Bytes) (tx sp : List ℕ) : Type 0 where
   pub isBody : tx ≡ running 0 (firsts bs)
   pub isSpan : sp ≡ running 0 (seconds bs)
-
--- what the eight slots of the bytes bs say, added up
-pub record BlockTotal (k : Kind) (bs : Bytes) (v : Value) : Type 0 where
-  pub isStrides : v .strides ≡ inlineStrides k bs 0 8
-  pub isSpans : v .spans ≡ inlineSpans k bs 0 8
-  pub stridesFew : v .strides < 2 ^ 19
-  pub spansFew : v .spans < 2 ^ 19
-
--- and after each of them, × 8
-pub record BlockSums (k : Kind) (bs : Bytes) (tx sp : List ℕ) : Type 0 where
-  pub isBody : (i : ℕ) → i < 8 → getD tx i 0 ≡ 8 * inlineStrides k bs 0 (i + 1)
-  pub isSpan : (i : ℕ) → i < 8 → getD sp i 0 ≡ 8 * inlineSpans k bs 0 (i + 1)

@@ -3,12 +3,11 @@
 ghost use mathlib.Core.Path.{_≡_};
 ghost use mathlib.Core.Bool.{true};
 ghost use mathlib.Core.List.{_++_};
-ghost use Prim.Native.Nat.{_+_, _*_, _%_, _^_, _<_};
+ghost use Prim.Native.Nat.{_+_, _*_, _^_, _<_};
 ghost use Rattle.loc_leaf.specs.declared.Kind.the-variants.{Paired, Single};
 ghost use Rattle.loc_leaf.specs.Bytes.{bytes};
-ghost use Rattle.loc_leaf.specs.Block.{firsts, sixteens, rowBit, rowMask, inlineStrides, inlineSpans, running, lowest, lanesOf, SumsOf, BlockTotal, BlockSums};
+ghost use Rattle.loc_leaf.specs.Block.{firsts, rowBit, rowMask, inlineStrides, inlineSpans, running, lowest, lanesOf, SumsOf};
 use crate::Kind;
-use crate::Value;
 
 // The low byte of each of four lanes of sixteen bits.
 pub const BYTES: u64 = 0x00ff_00ff_00ff_00ff;
@@ -55,16 +54,6 @@ pub fn none_empty(lo: u64, hi: u64) -> bool
     ensures { λ r. ⌜ (r ≡ true → rowMask Single (bytes 8 lo ++ bytes 8 hi) 0 8 ≡ 0) ⌝ }
 {
     even_full(lo) & even_full(lo >> 16) & even_full(hi) & even_full(hi >> 16) == WORD_CARRIES
-}
-
-// Whether no record of the block needs a row.
-pub fn none_needs_row(kind: Kind, lo: u64, hi: u64) -> bool
-    ensures { λ r. ⌜ (r ≡ true → rowMask kind (bytes 8 lo ++ bytes 8 hi) 0 8 ≡ 0) ⌝ }
-{
-    match kind {
-        Kind::Paired => none_zero(lo, hi),
-        Kind::Single => none_empty(lo, hi),
-    }
 }
 
 // Which of a word's four records hold a 0: four bits, put side by side.
@@ -124,23 +113,6 @@ pub fn strides_total(lo: u64, hi: u64) -> u64
     (e >> 32) + (e & 0xffff_ffff)
 }
 
-// What the block's slots say, added up.
-pub fn block_total(kind: Kind, lo: u64, hi: u64) -> Value
-    ensures { λ r. ⌜ BlockTotal kind (bytes 8 lo ++ bytes 8 hi) r ⌝ }
-{
-    match kind {
-        Kind::Paired => {
-            let strides = first_total(lo, hi) as u32;
-            let spans = second_total(lo, hi) as u32;
-            Value { strides, spans }
-        }
-        Kind::Single => {
-            let strides = strides_total(lo, hi) as u32;
-            Value { strides, spans: 0 }
-        }
-    }
-}
-
 // The running sums of a word's first bytes × 8, each in its lane; no lane reaches 2^16.
 fn lane_sums(w: u64) -> u64
     ensures { λ r. ⌜ r ≡ lanesOf (running 0 (firsts (bytes 8 w))) ⌝ }
@@ -180,40 +152,4 @@ pub fn inclusive_u8x8_times_8(lo: u64, hi: u64) -> Sums
     let tx = first_sums(lo, hi);
     let sp = first_sums(lo >> 8, hi >> 8);
     Sums { tx, sp }
-}
-
-// The lowest sixteen bits of a word, × 8.
-fn sixteen_times_8(w: u64) -> u32
-    ensures { λ r. ⌜ (r ≡ 8 * (w % 2 ^ 16)) × (r < 2 ^ 19) ⌝ }
-{
-    8 * (w % 65536) as u32
-}
-
-// The running sums of a block's records as numbers of sixteen bits, × 8.
-pub fn inclusive_u16x8_times_8(lo: u64, hi: u64) -> [u32; 8]
-    ensures { λ r. ⌜ r ≡ running 0 (sixteens (bytes 8 lo ++ bytes 8 hi)) ⌝ }
-{
-    let a = sixteen_times_8(lo);
-    let b = a + sixteen_times_8(lo >> 16);
-    let c = b + sixteen_times_8(lo >> 32);
-    let d = c + sixteen_times_8(lo >> 48);
-    let e = d + sixteen_times_8(hi);
-    let f = e + sixteen_times_8(hi >> 16);
-    let g = f + sixteen_times_8(hi >> 32);
-    let h = g + sixteen_times_8(hi >> 48);
-    [a, b, c, d, e, f, g, h]
-}
-
-// The running sums of what the block's slots say, × 8.
-pub fn block_sums(kind: Kind, lo: u64, hi: u64) -> Sums
-    ensures { λ r. ⌜ BlockSums kind (bytes 8 lo ++ bytes 8 hi) (r .tx) (r .sp) ⌝ }
-{
-    match kind {
-        Kind::Paired => inclusive_u8x8_times_8(lo, hi),
-        Kind::Single => {
-            let tx = inclusive_u16x8_times_8(lo, hi);
-            let sp = [0u32; 8];
-            Sums { tx, sp }
-        }
-    }
 }

@@ -1,6 +1,6 @@
 -- One window of the walk: where its slot loop begins, and what its sums say of the wanted numbers that lie in it.
 -- f is the record before the window, m how many of its records are looked at.
-use Prim.Native.Nat.{ℕ, suc, _+_, _-_, _*_, _/_, _^_, _≤_, _<_}
+use Prim.Native.Nat.{ℕ, suc, _+_, _-_, _*_, _^_, _≤_, _<_}
 use mathlib.Core.Path.{_≡_, refl, sym, ap, _∙_}
 use mathlib.Core.Logic.{_⊎_, inl, inr}
 use mathlib.Core.Bool.{Bool, true, false, not, _&&_, false≢true}
@@ -129,16 +129,16 @@ module _ (k : Kind) (a : Areas) (n nr : ℕ) (ids keys : List ℕ) (i end f m st
     high : Right k f bytes (a .rows) (j + 1) body span
     high = w .stored .next j inside (run .marked t h g)
 
-    body-here : getD body j 0 ≡ 8 * stridesAfter k a f j
+    body-here : getD body j 0 ≡ stridesAfter k a f j
     body-here = right-strides k a f m bytes old copied j body span (omega (arith, inside)) low
 
-    body-next : getD body (j + 1) 0 ≡ 8 * stridesAfter k a f (j + 1)
+    body-next : getD body (j + 1) 0 ≡ stridesAfter k a f (j + 1)
     body-next = right-strides k a f m bytes old copied (j + 1) body span (omega (arith, inside)) high
 
-    span-here : getD span j 0 ≡ 8 * spansAfter k a f j
+    span-here : getD span j 0 ≡ spansAfter k a f j
     span-here = right-spans k a f m bytes old copied j body span (omega (arith, inside)) low
 
-    span-next : getD span (j + 1) 0 ≡ 8 * spansAfter k a f (j + 1)
+    span-next : getD span (j + 1) 0 ≡ spansAfter k a f (j + 1)
     span-next = right-spans k a f m bytes old copied (j + 1) body span (omega (arith, inside)) high
 
     few : j < 1024
@@ -151,15 +151,15 @@ module _ (k : Kind) (a : Areas) (n nr : ℕ) (ids keys : List ℕ) (i end f m st
           inSpan = omega (arith, few, w .spanLong);
           bodyRises = omega (arith, body-here, body-next, strides-more k a f j);
           spanRises = omega (arith, span-here, span-next, spans-more k a f j);
-          bodyWhole = omega (arith, body-here, body-next);
-          spanWhole = omega (arith, span-here, span-next);
+          bodyLow = omega (arith, few, high .bodyLow);
+          spanLow = omega (arith, few, high .spanLow);
         }
 
     itself : f + suc j ≡ id
     itself = omega (arith, own-window t h g, some)
 
-    value : record { strides = (getD body (j + 1) 0 - getD body j 0) / 8; spans = (getD span (j + 1) 0 - getD span j 0) / 8 } ≡ valueAt k a id
-    value = value-is (valueAt k a id) ((getD body (j + 1) 0 - getD body j 0) / 8) ((getD span (j + 1) 0 - getD span j 0) / 8)
+    value : record { strides = getD body (j + 1) 0 - getD body j 0; spans = getD span (j + 1) 0 - getD span j 0 } ≡ valueAt k a id
+    value = value-is (valueAt k a id) (getD body (j + 1) 0 - getD body j 0) (getD span (j + 1) 0 - getD span j 0)
         (omega (arith, body-here, body-next, strides-more k a f j, ap (λ (x : ℕ). (valueAt k a x) .strides) itself))
         (omega (arith, span-here, span-next, spans-more k a f j, ap (λ (x : ℕ). (valueAt k a x) .spans) itself))
 

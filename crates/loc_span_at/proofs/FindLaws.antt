@@ -145,10 +145,10 @@ module _ (a : Areas) (nr t : ℕ) (p : Part) (g : Holding a nr t p) (span : List
       go (suc i) e = omega (arith, v .below i (omega arith), run (i + 1) (omega (arith, v .inside)), ap (spansAfter Paired a (p .base)) (add-one i))
 
   -- the index does not wrap
-  index-low : getD span k 0 / 8 ≤ t - p .before
+  index-low : getD span k 0 ≤ t - p .before
   index-low = omega (arith, low, run k (v .inside))
 
-  there : Crossed a (p .base) (p .m) (p .before) t (record { «record» = p .base + k + 1; index = t - p .before - getD span k 0 / 8 })
+  there : Crossed a (p .base) (p .m) (p .before) t (record { «record» = p .base + k + 1; index = t - p .before - getD span k 0 })
   there = record {
     place = k;
     inside = above;
@@ -165,9 +165,9 @@ module _ (slots rows : Bytes) (nr t : ℕ) (p : Part) (g : (c : Bytes) → Holdi
   pub record-inside : k < p .m
   record-inside = above (areas slots rows []) nr t p (g []) span (sums []) k v
 
-  pub record-low : getD span k 0 / 8 ≤ t - p .before
+  pub record-low : getD span k 0 ≤ t - p .before
   record-low = index-low (areas slots rows []) nr t p (g []) span (sums []) k v
 
   pub record-crossed : (c : Bytes)
-      → Crossed (areas slots rows c) (p .base) (p .m) (p .before) t (record { «record» = p .base + k + 1; index = t - p .before - getD span k 0 / 8 })
+      → Crossed (areas slots rows c) (p .base) (p .m) (p .before) t (record { «record» = p .base + k + 1; index = t - p .before - getD span k 0 })
   record-crossed c = there (areas slots rows c) nr t p (g c) span (sums c) k v

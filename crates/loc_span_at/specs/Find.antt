@@ -1,6 +1,6 @@
 -- Where a window has its span t: the part of its records that is left, and the record in the end.
 -- Of an inner crate; loc_calls says what the call answers.
-use Prim.Native.Nat.{ℕ, suc, _+_, _/_, _^_, _≤_, _<_}
+use Prim.Native.Nat.{ℕ, suc, _+_, _^_, _≤_, _<_}
 use mathlib.Core.Path.{_≡_}
 use mathlib.Core.Bool.{true}
 use mathlib.Core.List.{List}
@@ -36,11 +36,11 @@ pub record Halved (a : Areas) (nr t : ℕ) (p q : Part) : Type 0 where
   pub inside : Inside a p q
   pub less : q .m < p .m
 
--- k is the first place of m whose next sum, in bytes, is above t spans, or m
+-- k is the first place of m whose next sum is above t, or m
 pub record FirstAbove (sums : List ℕ) (m t k : ℕ) : Type 0 where
   pub inside : k ≤ m
-  pub below : (j : ℕ) → j < k → getD sums (j + 1) 0 / 8 ≤ t
-  pub above : k < m → t < getD sums (k + 1) 0 / 8
+  pub below : (j : ℕ) → j < k → getD sums (j + 1) 0 ≤ t
+  pub above : k < m → t < getD sums (k + 1) 0
 
 -- of the m records that follow record f, with `before` spans before them, r names the one that has span t, and t's index in it
 pub record Crossed (a : Areas) (f m before t : ℕ) (r : Span) : Type 0 where

@@ -60,14 +60,14 @@ fn half(
     }
 }
 
-// The first of m sums, the next one of which, in bytes, is above t spans.
+// The first of m sums, the next one of which is above t.
 fn first_above(sums: &[u64], m: usize, t: u64) -> usize
     requires { ⌜ m < length (now sums) ⌝ }
     ensures { λ r. ⌜ FirstAbove (now (sums .entry)) m t r ⌝ }
 {
     let mut k: usize = 0;
     while k < m {
-        if t < sums[k + 1] / 8 {
+        if t < sums[k + 1] {
             return k;
         }
         k += 1;
@@ -103,7 +103,7 @@ fn record_in(
     );
     let left = t - p.before;
     let k = first_above(span, p.m, left);
-    let passed = span[k] / 8;
+    let passed = span[k];
     Span {
         record: p.base + k as u64 + 1,
         index: left - passed,

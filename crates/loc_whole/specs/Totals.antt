@@ -33,9 +33,9 @@ pub record Totals (a : Areas) (f m : ℕ) (s : Sums) : Type 0 where
   pub spansLow : s .spans ≤ m * 2 ^ 32
   pub passed : Passed (rowList Paired (a .rows)) (s .row) (f + m)
 
--- the spans of each number of them stand in the list, in bytes
+-- the spans of each number of them stand in the list
 abbrev pub Running : Areas → ℕ → ℕ → List ℕ → Type 0
-Running a f m span = (j : ℕ) → j ≤ m → getD span j 0 ≡ 8 * spansAfter Paired a f j
+Running a f m span = (j : ℕ) → j ≤ m → getD span j 0 ≡ spansAfter Paired a f j
 
 -- their sums, with the stamp 0 each of them, or one of them lacks its row
 unfoldable pub Totalled : Areas → ℕ → ℕ → ℕ → List ℕ → Step → Type 0

@@ -135,15 +135,11 @@ module _ (s : Bytes) (k lo hi : ℕ) (el : bytes 8 lo ≡ take 8 (drop (2 * k) s
   pub slots-agree : (g : Bytes → ℕ) → Agree (λ i. g (slotBytes (bytes 8 lo ++ bytes 8 hi) i)) (λ i. g (slotBytes s i)) 0 k 8
   slots-agree = part-agree s k 8 (bytes 8 lo ++ bytes 8 hi) block-is
 
-  -- what its first n records give, added up
-  pub block-part : (g : Bytes → ℕ) (n : ℕ) → n ≤ 8 → sumFrom (λ i. g (slotBytes (bytes 8 lo ++ bytes 8 hi) i)) 0 n ≡ sumFrom (λ i. g (slotBytes s i)) k n
-  block-part g n h = sum-same _ _ 0 k n (λ t l. slots-agree g t (omega arith))
-
   pub block-strides : (kd : Kind) → inlineStrides kd (bytes 8 lo ++ bytes 8 hi) 0 8 ≡ inlineStrides kd s k 8
-  block-strides kd = block-part (λ l. inline kd l .strides) 8 (omega arith)
+  block-strides kd = sum-same _ _ 0 k 8 (slots-agree (λ l. inline kd l .strides))
 
   pub block-spans : (kd : Kind) → inlineSpans kd (bytes 8 lo ++ bytes 8 hi) 0 8 ≡ inlineSpans kd s k 8
-  block-spans kd = block-part (λ l. inline kd l .spans) 8 (omega arith)
+  block-spans kd = sum-same _ _ 0 k 8 (slots-agree (λ l. inline kd l .spans))
 
   pub block-mask : (kd : Kind) → rowMask kd (bytes 8 lo ++ bytes 8 hi) 0 8 ≡ rowMask kd s k 8
   block-mask kd = mask-same kd (bytes 8 lo ++ bytes 8 hi) s 0 k 8 (slots-agree (λ l. cond (needsRow kd l) 1 0))

@@ -60,10 +60,10 @@ sum-at g j n z h =
 
 module _ (k : Kind) (f : ℕ) (bytes rows : Bytes) where
   -- none of n records from record j on needs a row
-  abbrev pub Plain : ℕ → ℕ → Type 0
+  abbrev Plain : ℕ → ℕ → Type 0
   Plain j n = (i : ℕ) → j ≤ i → i < j + n → needsRow k (slotBytes bytes i) ≡ false
 
-  pub after-plain : (n j block : ℕ) (s : Sums) → After k f bytes rows j s → Plain j n → inlineStrides k bytes j n < 2 ^ 32 → inlineSpans k bytes j n < 2 ^ 32
+  after-plain : (n j block : ℕ) (s : Sums) → After k f bytes rows j s → Plain j n → inlineStrides k bytes j n < 2 ^ 32 → inlineSpans k bytes j n < 2 ^ 32
       → After k f bytes rows (j + n) (sumsOf (s .strides + inlineStrides k bytes j n) (s .spans + inlineSpans k bytes j n) (s .row) block)
   unfolding sumFrom
   after-plain zero j block s w p hs hp = rw (add-zero j, add-zero (s .strides), add-zero (s .spans)) (after-at k f bytes rows j block s w)

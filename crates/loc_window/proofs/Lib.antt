@@ -5,7 +5,6 @@ pub mod SumLaws
 pub mod RecordLaws
 pub mod StepLaws
 pub mod BlocksLaws
-pub mod MarkedLaws
 pub mod CheckpointLaws
 pub mod WindowLaws
 pub mod SummingLaws

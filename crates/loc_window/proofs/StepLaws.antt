@@ -16,10 +16,44 @@ use Rattle.loc_calls.specs.Reading.{lookupAt, has}
 use Rattle.loc_window.specs.declared.Sums.{Sums}
 use Rattle.loc_window.specs.declared.Step.{Step}
 use Rattle.loc_window.specs.declared.Step.the-variants.{Next, Lack}
-use Rattle.loc_window.specs.Window.{windowAreas, complete, After, Right, Written, Ready, BlockReady, Unmarked, BlocksAfter, BlocksPassed, SumsStored, SlotStepped, Copied}
-use Rattle.loc_window.proofs.SumLaws.{all-more, right-same}
+use Rattle.loc_window.specs.Window.{windowAreas, complete, After, sumsOf, Right, Written, Recorded, Ready, BlockReady, Unmarked, BlocksAfter, BlocksPassed, SumsStored, SlotStepped, Copied}
+use Rattle.loc_window.proofs.SumLaws.{all-more, after-at, right-same}
+
+module _ (k j : Kind) (e : k ≡ j) (f : ℕ) (bytes rows : Bytes) where
+  -- what is asked of a kind is asked of an arm's
+  pub ready-of : (count from n : ℕ) (s : Sums) (body span : List ℕ) → Ready k f bytes rows count from n s body span → Ready j f bytes rows count from n s body span
+  ready-of count from n s body span r = subst (λ (i : Kind). Ready i f bytes rows count from n s body span) e r
 
 module _ (k : Kind) (f : ℕ) (bytes rows : Bytes) where
+  -- fewer records ask no more
+  pub ready-part : (count from n m : ℕ) (s : Sums) (body span : List ℕ) → from ≤ n → n ≤ m → Ready k f bytes rows count from m s body span → Ready k f bytes rows count from n s body span
+  ready-part count from n m s body span h g r =
+      record {
+        order = h;
+        few = omega (arith, r .few);
+        copied = omega (arith, r .copied);
+        bodyRoom = omega (arith, r .bodyRoom);
+        spanRoom = omega (arith, r .spanRoom);
+        numbers = r .numbers;
+        rise = r .rise;
+        after = r .after;
+      }
+
+  -- the same sums, counted as other blocks
+  pub ready-at : (count from n block : ℕ) (s : Sums) (body span : List ℕ) → Ready k f bytes rows count from n s body span
+      → Ready k f bytes rows count from n (sumsOf (s .strides) (s .spans) (s .row) block) body span
+  ready-at count from n block s body span r =
+      record {
+        order = r .order;
+        few = r .few;
+        copied = r .copied;
+        bodyRoom = r .bodyRoom;
+        spanRoom = r .spanRoom;
+        numbers = r .numbers;
+        rise = r .rise;
+        after = after-at k f bytes rows from block s (r .after);
+      }
+
   -- later sums ask no more
   pub ready-later : (count from n from′ : ℕ) (s t : Sums) (body span : List ℕ) → from′ ≤ n → After k f bytes rows from′ t → Ready k f bytes rows count from n s body span
       → Ready k f bytes rows count from′ n t body span
@@ -49,7 +83,7 @@ module _ (k : Kind) (f : ℕ) (bytes rows : Bytes) where
       }
 
   module _ (mark : List ℕ) (stamp : ℕ) where
-    pub stored-written : (n n′ : ℕ) (body span body′ span′ : List ℕ) → SumsStored k f bytes rows mark stamp n body span → Written k f bytes rows n n′ body span body′ span′
+    stored-written : (n n′ : ℕ) (body span body′ span′ : List ℕ) → SumsStored k f bytes rows mark stamp n body span → Written k f bytes rows n n′ body span body′ span′
         → SumsStored k f bytes rows mark stamp n′ body′ span′
     stored-written n n′ body span body′ span′ w v = record { here = here; next = next }
       where
@@ -81,6 +115,26 @@ module _ (k : Kind) (f : ℕ) (bytes rows : Bytes) where
             go : Dec (8 * block ≤ j) → j < 8 * block
             go (yes g) = absurd (u (j / 8) (omega arith) (omega arith) e)
             go (no g) = omega arith
+
+    -- marked blocks, record by record
+    step-recorded : (block end m n : ℕ) (body span body′ span′ : List ℕ) (r : Step) → SumsStored k f bytes rows mark stamp (8 * block) body span → block < end → 8 * end < m + 8
+        → n ≡ min (8 * end) m → Recorded k f bytes rows end (8 * block) n body span body′ span′ r → SlotStepped k f bytes rows mark stamp block m body′ span′ r
+    step-recorded block end m n body span body′ span′ (Next s) w h g e v = (
+      omega (arith, v .0),
+      omega (arith, v .0),
+      subst (λ (i : ℕ). After k f bytes rows i s) q (v .1),
+      subst (λ (i : ℕ). SumsStored k f bytes rows mark stamp i body′ span′) q (stored-written (8 * block) n body span body′ span′ w (v .2)),
+    )
+      where
+        q : n ≡ min (8 * s .block) m
+        q = omega (arith, v .0)
+    step-recorded block end m n body span body′ span′ Lack w h g e v = all-more (λ i. has (lookupAt k (windowAreas f bytes rows) i)) f n m v (omega arith)
+
+    -- the same by the arm of the kind
+    pub step-arm : (j : Kind) → k ≡ j → (block end m n : ℕ) (body span body′ span′ : List ℕ) (r : Step) → SumsStored k f bytes rows mark stamp (8 * block) body span → block < end → 8 * end < m + 8
+        → n ≡ min (8 * end) m → Recorded j f bytes rows end (8 * block) n body span body′ span′ r → SlotStepped k f bytes rows mark stamp block m body′ span′ r
+    step-arm j q block end m n body span body′ span′ r w h g e v =
+        step-recorded block end m n body span body′ span′ r w h g e (subst (λ (i : Kind). Recorded i f bytes rows end (8 * block) n body span body′ span′ r) (sym q) v)
 
     -- blocks that are not marked, to the end
     pub step-passed : (block m : ℕ) (t : Sums) (body span : List ℕ) → BlocksAfter k f bytes rows mark stamp block (m / 8) t → SumsStored k f bytes rows mark stamp (8 * block) body span

@@ -138,18 +138,18 @@ module _ (k : Kind) (f : ℕ) (bytes rows : Bytes) where
 -- ---- sums that are stored
 
 module _ (k : Kind) (f : ℕ) (bytes rows : Bytes) where
-  -- the sums of n records where they stand
-  pub right-of : (n : ℕ) (s : Sums) (body span : List ℕ) → After k f bytes rows n s → getD body n 0 ≡ 8 * s .strides → getD span n 0 ≡ 8 * s .spans → Right k f bytes rows n body span
-  right-of n s body span w eb es =
-      record {
-        bodyIs = eb ∙ ap (λ (x : ℕ). 8 * x) (w .isStrides);
-        spanIs = es ∙ ap (λ (x : ℕ). 8 * x) (w .isSpans);
-      }
-
+  -- the sums of n records where they were stored
   stored : (n : ℕ) (s : Sums) (body span : List ℕ) → After k f bytes rows n s → n < length body → n < length span
-      → Right k f bytes rows n (set body n (8 * s .strides)) (set span n (8 * s .spans))
+      → Right k f bytes rows n (set body n (s .strides)) (set span n (s .spans))
   stored n s body span w hb hs =
-      right-of n s (set body n (8 * s .strides)) (set span n (8 * s .spans)) w (getD-set-same body n (8 * s .strides) 0 hb) (getD-set-same span n (8 * s .spans) 0 hs)
+      let eb : getD (set body n (s .strides)) n 0 ≡ s .strides = getD-set-same body n (s .strides) 0 hb in
+      let es : getD (set span n (s .spans)) n 0 ≡ s .spans = getD-set-same span n (s .spans) 0 hs in
+      record {
+        bodyIs = eb ∙ w .isStrides;
+        spanIs = es ∙ w .isSpans;
+        bodyLow = omega (arith, w .stridesLow);
+        spanLow = omega (arith, w .spansLow);
+      }
 
   -- those of j records where others were stored
   pub right-same : (j : ℕ) (body span body′ span′ : List ℕ) → getD body′ j 0 ≡ getD body j 0 → getD span′ j 0 ≡ getD span j 0
@@ -158,17 +158,19 @@ module _ (k : Kind) (f : ℕ) (bytes rows : Bytes) where
       record {
         bodyIs = p ∙ w .bodyIs;
         spanIs = q ∙ w .spanIs;
+        bodyLow = omega (arith, w .bodyLow);
+        spanLow = omega (arith, w .spanLow);
       }
 
   pub written-first : (n : ℕ) (s : Sums) (body span : List ℕ) → After k f bytes rows n s → n < length body → n < length span
-      → Written k f bytes rows n n (set body n (8 * s .strides)) (set span n (8 * s .spans)) (set body n (8 * s .strides)) (set span n (8 * s .spans))
+      → Written k f bytes rows n n (set body n (s .strides)) (set span n (s .spans)) (set body n (s .strides)) (set span n (s .spans))
   written-first n s body span w hb hs =
       record {
         bodyLong = refl;
         spanLong = refl;
         bodyKept = λ j h. refl;
         spanKept = λ j h. refl;
-        right = λ j h g. let e : n ≡ j = omega arith in subst (λ (i : ℕ). Right k f bytes rows i (set body n (8 * s .strides)) (set span n (8 * s .spans))) e (stored n s body span w hb hs);
+        right = λ j h g. let e : n ≡ j = omega arith in subst (λ (i : ℕ). Right k f bytes rows i (set body n (s .strides)) (set span n (s .spans))) e (stored n s body span w hb hs);
       }
 
   -- seen from before the first store
@@ -185,22 +187,22 @@ module _ (k : Kind) (f : ℕ) (bytes rows : Bytes) where
 
   pub written-next : (from n : ℕ) (s : Sums) (body₀ span₀ body span : List ℕ) → from ≤ n → Written k f bytes rows from n body₀ span₀ body span
       → After k f bytes rows (n + 1) s → n + 1 < length body₀ → n + 1 < length span₀
-      → Written k f bytes rows from (n + 1) body₀ span₀ (set body (n + 1) (8 * s .strides)) (set span (n + 1) (8 * s .spans))
+      → Written k f bytes rows from (n + 1) body₀ span₀ (set body (n + 1) (s .strides)) (set span (n + 1) (s .spans))
   written-next from n s body₀ span₀ body span l w a hb hs =
       record {
-        bodyLong = length-set body (n + 1) (8 * s .strides) ∙ w .bodyLong;
-        spanLong = length-set span (n + 1) (8 * s .spans) ∙ w .spanLong;
-        bodyKept = λ j h. getD-set-other body (n + 1) j (8 * s .strides) 0 (λ e. omega arith) ∙ w .bodyKept j h;
-        spanKept = λ j h. getD-set-other span (n + 1) j (8 * s .spans) 0 (λ e. omega arith) ∙ w .spanKept j h;
+        bodyLong = length-set body (n + 1) (s .strides) ∙ w .bodyLong;
+        spanLong = length-set span (n + 1) (s .spans) ∙ w .spanLong;
+        bodyKept = λ j h. getD-set-other body (n + 1) j (s .strides) 0 (λ e. omega arith) ∙ w .bodyKept j h;
+        spanKept = λ j h. getD-set-other span (n + 1) j (s .spans) 0 (λ e. omega arith) ∙ w .spanKept j h;
         right = at;
       }
     where
-      at : (j : ℕ) → from ≤ j → j ≤ n + 1 → Right k f bytes rows j (set body (n + 1) (8 * s .strides)) (set span (n + 1) (8 * s .spans))
+      at : (j : ℕ) → from ≤ j → j ≤ n + 1 → Right k f bytes rows j (set body (n + 1) (s .strides)) (set span (n + 1) (s .spans))
       at j h g =
           ⊎-elim
-          (λ (e : j ≡ n + 1). subst (λ (i : ℕ). Right k f bytes rows i (set body (n + 1) (8 * s .strides)) (set span (n + 1) (8 * s .spans))) (sym e) (stored (n + 1) s body span a (omega (arith, w .bodyLong)) (omega (arith, w .spanLong))))
+          (λ (e : j ≡ n + 1). subst (λ (i : ℕ). Right k f bytes rows i (set body (n + 1) (s .strides)) (set span (n + 1) (s .spans))) (sym e) (stored (n + 1) s body span a (omega (arith, w .bodyLong)) (omega (arith, w .spanLong))))
           (λ (m : j < n + 1).
-          right-same j body span (set body (n + 1) (8 * s .strides)) (set span (n + 1) (8 * s .spans))
-          (getD-set-other body (n + 1) j (8 * s .strides) 0 (λ e. omega arith)) (getD-set-other span (n + 1) j (8 * s .spans) 0 (λ e. omega arith))
+          right-same j body span (set body (n + 1) (s .strides)) (set span (n + 1) (s .spans))
+          (getD-set-other body (n + 1) j (s .strides) 0 (λ e. omega arith)) (getD-set-other span (n + 1) j (s .spans) 0 (λ e. omega arith))
           (w .right j h (omega arith)))
           (eq-or-lt-of-le g)

@@ -91,8 +91,8 @@ module _ (k : Kind) (a : Areas) (f m : ℕ) (bytes old : Bytes) (w : Copied (a .
   spans-same n l =
       sum-same (λ i. (valueAt k (windowAreas f bytes (a .rows)) i) .spans) (λ i. (valueAt k a i) .spans) f m (λ j h. ap (λ (v : Lookup). valueIn v .spans) (lookup-same j h)) n l
 
-  pub right-strides : (j : ℕ) (body span : List ℕ) → j ≤ m → Right k f bytes (a .rows) j body span → getD body j 0 ≡ 8 * stridesAfter k a f j
-  right-strides j body span l r = r .bodyIs ∙ ap (λ (x : ℕ). 8 * x) (strides-same j l)
+  pub right-strides : (j : ℕ) (body span : List ℕ) → j ≤ m → Right k f bytes (a .rows) j body span → getD body j 0 ≡ stridesAfter k a f j
+  right-strides j body span l r = r .bodyIs ∙ strides-same j l
 
-  pub right-spans : (j : ℕ) (body span : List ℕ) → j ≤ m → Right k f bytes (a .rows) j body span → getD span j 0 ≡ 8 * spansAfter k a f j
-  right-spans j body span l r = r .spanIs ∙ ap (λ (x : ℕ). 8 * x) (spans-same j l)
+  pub right-spans : (j : ℕ) (body span : List ℕ) → j ≤ m → Right k f bytes (a .rows) j body span → getD span j 0 ≡ spansAfter k a f j
+  right-spans j body span l r = r .spanIs ∙ spans-same j l

@@ -62,10 +62,12 @@ pub record FoundRow (k : Kind) (rows : Bytes) (count id r : ℕ) : Type 0 where
   pub there : r < count → IsRow k rows id r
   pub missing : r ≡ count → lookupByHalves k id (rowList k rows) ≡ Missing
 
--- the sums of j records stand in the arrays, in bytes: a stride and a span are 8 bytes
+-- the sums of j records stand in the arrays
 pub record Right (k : Kind) (f : ℕ) (bytes rows : Bytes) (j : ℕ) (body span : List ℕ) : Type 0 where
-  pub bodyIs : getD body j 0 ≡ 8 * stridesAfter k (windowAreas f bytes rows) f j
-  pub spanIs : getD span j 0 ≡ 8 * spansAfter k (windowAreas f bytes rows) f j
+  pub bodyIs : getD body j 0 ≡ stridesAfter k (windowAreas f bytes rows) f j
+  pub spanIs : getD span j 0 ≡ spansAfter k (windowAreas f bytes rows) f j
+  pub bodyLow : getD body j 0 ≤ j * 2 ^ 32
+  pub spanLow : getD span j 0 ≤ j * 2 ^ 32
 
 -- from the sums of `from` records to those of n all stand in the arrays, and what stood before them is kept
 pub record Written (k : Kind) (f : ℕ) (bytes rows : Bytes) (from n : ℕ) (body₀ span₀ body span : List ℕ) : Type 0 where
@@ -74,18 +76,6 @@ pub record Written (k : Kind) (f : ℕ) (bytes rows : Bytes) (from n : ℕ) (bod
   pub bodyKept : (j : ℕ) → j < from → getD body j 0 ≡ getD body₀ j 0
   pub spanKept : (j : ℕ) → j < from → getD span j 0 ≡ getD span₀ j 0
   pub right : (j : ℕ) → from ≤ j → j ≤ n → Right k f bytes rows j body span
-
--- a sum and eight on top of it stand from a place on, and what stood before them is kept
-pub record NinePut (old : List ℕ) (at x : ℕ) (t new : List ℕ) : Type 0 where
-  pub long : length new ≡ length old
-  pub here : getD new at 0 ≡ x
-  pub there : (i : ℕ) → i < 8 → getD new (at + 1 + i) 0 ≡ x + getD t i 0
-  pub kept : (j : ℕ) → j < at → getD new j 0 ≡ getD old j 0
-
--- one record more, or it lacks its row
-abbrev pub OneRecorded : Kind → ℕ → Bytes → Bytes → ℕ → ℕ → Step → Type 0
-OneRecorded k f bytes rows block n (Next s) = (s .block ≡ block) × After k f bytes rows (n + 1) s
-OneRecorded k f bytes rows block n Lack = complete k (windowAreas f bytes rows) f (n + 1) ≡ false
 
 -- the records `from` to n one by one, counted as so many blocks, or one of them lacks its row
 abbrev pub Recorded : Kind → ℕ → Bytes → Bytes → ℕ → ℕ → ℕ → List ℕ → List ℕ → List ℕ → List ℕ → Step → Type 0

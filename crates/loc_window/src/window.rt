@@ -1,17 +1,15 @@
 // The sums of a window's records, one after the other and by blocks of eight.
 // `base` records stand before the window; record k of the window is numbered base + k + 1.
 ghost use mathlib.Core.Path.{_≡_};
-ghost use Prim.Native.Nat.{ℕ, _+_, _*_, _^_, _<_, _≤_, min};
-ghost use lib.ListN.{length, getD};
-ghost use Rattle.loc_window.specs.Window.{sumsOf, NinePut, Recorded, Ready, SumsStored, SlotStepped, Summing, WindowSummed, Copied};
+ghost use Prim.Native.Nat.{_+_, _*_, _<_, _≤_, min};
+ghost use lib.ListN.{length};
+ghost use Rattle.loc_window.specs.Window.{sumsOf, Ready, SumsStored, SlotStepped, Summing, WindowSummed, Copied};
 use crate::Step;
 use crate::Sums;
 use crate::blocks::blocks;
-use crate::records::records;
-use crate::rows::word_at;
+use crate::records::pair_records;
+use crate::records::single_records;
 use loc_leaf::Kind;
-use loc_leaf::loc_simd::block_sums;
-use loc_leaf::loc_simd::none_needs_row;
 
 // Where the marked blocks from one on end, of `most` blocks.
 fn marked_end(mark: &[u64], stamp: u64, from: usize, most: usize) -> usize
@@ -37,67 +35,8 @@ fn block_end(blocks: usize, m: usize) -> usize
     if end < m { end } else { m }
 }
 
-// A sum and eight on top of it, from a place on.
-fn put_sums(out: &mut [u64], at: usize, x: u64, t: [u32; 8])
-    requires { ⌜ (at + 8 < length (now out)) × (x < 2 ^ 60) × ((i : ℕ) → i < 8 → getD t i 0 < 2 ^ 32) ⌝ }
-    ensures { λ _. ⌜ NinePut (now (out .entry)) at x t (now (out .exit)) ⌝ }
-{
-    out[at] = x;
-    out[at + 1] = x + t[0] as u64;
-    out[at + 2] = x + t[1] as u64;
-    out[at + 3] = x + t[2] as u64;
-    out[at + 4] = x + t[3] as u64;
-    out[at + 5] = x + t[4] as u64;
-    out[at + 6] = x + t[5] as u64;
-    out[at + 7] = x + t[6] as u64;
-    out[at + 8] = x + t[7] as u64;
-}
-
-// A marked block, each sum stored: by its words where it is whole and no record needs a row, else record by record.
-fn marked_block(
-    kind: Kind,
-    bytes: &[u8],
-    m: usize,
-    rows: &[u8],
-    count: usize,
-    base: u64,
-    s: Sums,
-    body: &mut [u64],
-    span: &mut [u64],
-) -> Step
-    requires { ⌜ (8 * s .block < m) × Ready kind base (now bytes) (now rows) count (8 * s .block) m s (now body) (now span) ⌝ }
-    ensures { λ r. ⌜ Recorded kind base (now (bytes .entry)) (now (rows .entry)) (s .block + 1) (8 * s .block) (min (8 * (s .block + 1)) m) (now (body .entry)) (now (span .entry)) (now (body .exit)) (now (span .exit)) r ⌝ }
-{
-    let from = 8 * s.block;
-    if from + 8 <= m {
-        let lo = word_at(bytes, 2 * from);
-        let hi = word_at(bytes, 2 * from + 8);
-        if none_needs_row(kind, lo, hi) {
-            let t = block_sums(kind, lo, hi);
-            let tx = t.tx;
-            let sp = t.sp;
-            put_sums(body, from, 8 * s.strides, tx);
-            put_sums(span, from, 8 * s.spans, sp);
-            return Step::Next(Sums {
-                strides: s.strides + tx[7] as u64 / 8,
-                spans: s.spans + sp[7] as u64 / 8,
-                row: s.row,
-                block: s.block + 1,
-            });
-        }
-    }
-    let n = block_end(s.block + 1, m);
-    let t = Sums {
-        strides: s.strides,
-        spans: s.spans,
-        row: s.row,
-        block: s.block + 1,
-    };
-    records(kind, bytes, from, n, rows, count, base, t, body, span)
-}
-
-// The marked blocks that follow. A last block that is not whole counts as marked.
-fn marked_blocks(
+// The records of the marked blocks that follow, one by one. A last block that is not whole counts as marked.
+fn marked_records(
     kind: Kind,
     bytes: &[u8],
     m: usize,
@@ -114,24 +53,23 @@ fn marked_blocks(
     requires { ⌜ SumsStored kind base (now bytes) (now rows) (now mark) stamp (8 * s .block) (now body) (now span) ⌝ }
     ensures { λ r. ⌜ SlotStepped kind base (now (bytes .entry)) (now (rows .entry)) (now (mark .entry)) stamp (s .block) m (now (body .exit)) (now (span .exit)) r ⌝ }
 {
-    let end = marked_end(mark, stamp, s.block, (m + 7) / 8);
-    let mut t = s;
-    while t.block < end {
-        let step = marked_block(kind, bytes, m, rows, count, base, t, body, span);
-        match step {
-            Step::Next(u) => {
-                t = u;
-            }
-            Step::Lack => {
-                return Step::Lack;
-            }
-        }
+    let from = s.block;
+    let end = marked_end(mark, stamp, from, (m + 7) / 8);
+    let n = block_end(end, m);
+    let t = Sums {
+        strides: s.strides,
+        spans: s.spans,
+        row: s.row,
+        block: end,
+    };
+    match kind {
+        Kind::Paired => pair_records(bytes, 8 * from, n, rows, count, base, t, body, span),
+        Kind::Single => single_records(bytes, 8 * from, n, rows, count, base, t, body, span),
     }
-    Step::Next(t)
 }
 
 // The sums some blocks further on in the window's first m records, or that one of them lacks its row.
-// The sums of marked blocks are stored, those of others are not.
+// The sums of marked blocks are stored one by one, those of others are not.
 pub fn slot_step(
     kind: Kind,
     bytes: &[u8],
@@ -164,7 +102,7 @@ pub fn slot_step(
             if m <= 8 * t.block {
                 return Step::Next(t);
             }
-            marked_blocks(
+            marked_records(
                 kind,
                 bytes,
                 m,

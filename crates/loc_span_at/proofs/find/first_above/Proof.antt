@@ -1,5 +1,5 @@
 -- `loc_span_at::find::first_above` meets its contract.
-use Prim.Native.Nat.{ℕ, _+_, _-_, _/_, _≤_, _<_}
+use Prim.Native.Nat.{ℕ, _+_, _-_, _≤_, _<_}
 use native.Mathlib.Nat.{not-suc-le-zero}
 use native.Mathlib.Omega.{arith}
 use lib.ListN.{getD}
@@ -9,7 +9,7 @@ use Rattle.loc_span_at.proofs.find.first_above.Statement.{statement}
 use Rattle.loc_span_at.proofs.find.first_above.Tie as tie
 
 abbrev Inv-loop : tie.InvT-loop
-Inv-loop sums m t k₀ k = (k ≤ m) × ((j : ℕ) → j < k → getD sums (j + 1) 0 / 8 ≤ t)
+Inv-loop sums m t k₀ k = (k ≤ m) × ((j : ℕ) → j < k → getD sums (j + 1) 0 ≤ t)
 
 abbrev μ-loop : tie.MeasureT-loop
 μ-loop sums m t k₀ k = m - k

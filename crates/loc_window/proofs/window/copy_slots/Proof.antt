@@ -1,5 +1,5 @@
 -- `loc_window::window::copy_slots` meets its contract.
--- The invariant: the first k bytes are copied, the others are as they were.
+-- The invariant: the base k bytes are copied, the others are as they were.
 use Prim.Native.Nat.{ℕ, _-_, _≤_}
 use mathlib.Core.Path.{_≡_, refl, subst}
 use native.Mathlib.Omega.{arith}
