@@ -9,7 +9,6 @@ use native.Mathlib.Nat.{add-zero, not-suc-le-zero, le-of-suc-le-suc, pow-suc}
 use native.Mathlib.Omega.{arith}
 use lib.Bits.{bitAnd, and-block, and-mask, and-high, and-le-l, and-le-r}
 use lib.Dec.{ltb, eqb}
-use lib.ListN.{take, drop}
 use lib.Pow.{pow-pos, shr-shr, low}
 use borrow.Author.Tests.{ltb-true, ltb-false, ne-eqb}
 use Rattle.loc_leaf.specs.declared.Kind.{Kind}

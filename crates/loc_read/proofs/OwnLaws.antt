@@ -1,7 +1,7 @@
 -- A list whose numbers all lie in one window: what the sums of that window and its answers ask, and what the reading gives.
 -- It is one turn of the walk, over the places of the list in place of keys.
 use Prim.Native.Nat.{ℕ, _+_, _*_, _^_, _≤_, _<_}
-use mathlib.Core.Path.{_≡_, refl, sym, ap, _∙_, subst}
+use mathlib.Core.Path.{_≡_, refl, sym, ap, subst}
 use mathlib.Core.List.{List}
 use native.Mathlib.Omega.{arith}
 use lib.ListN.{length, getD}

@@ -1,5 +1,4 @@
 -- `delta_loc::strides_from_aligned_len` meets its contract.
-use mathlib.Core.Path.{_≡_}
 use native.Mathlib.Omega.{arith}
 use borrow.Author.Needs.{needs}
 use Rattle.loc_leaf.proofs.SlotLaws.{strides-given, strides-many, strides-none, strides-of, strides-ragged}
