@@ -54,31 +54,59 @@ same-length-10 : tie.Need-same-length-10
 same-length-10 c = search needs
 
 returns-2 : tie.Need-returns-2
-returns-2 c = text-refused _ _ _ _ _ _ (c .before .before .before .before .before .before .before .before .before .before .before .before .before .before .before .before .before .before .check-areas .ensures) (c .before .before .before .before .before .before .before .before .before .before .before .before .before .before .before .before .if1 .left) _ _ _ _ _ (c .before .before .before .before .before .before .before .before .before .before .before .parse .ensures) _ (c .before .if2 .taken) (c .refused2 .ensures)
+returns-2 c =
+    let c₁ = c .before .before .before .before .before .before .before .before .before .before .before in
+    let c₂ = c₁ .before .before .before .before .before in
+    let c₃ = c₂ .before .before in
+    text-refused _ _ _ _ _ _ (c₃ .check-areas .ensures) (c₂ .if1 .left) _ _ _ _ _ (c₁ .parse .ensures) _ (c .before .if2 .taken) (c .refused2 .ensures)
 
 slice-reshare-prefix-append-settled : tie.Need-slice-reshare-prefix-append-settled
-slice-reshare-prefix-append-settled c = omega (arith, c .before .before .before .before .before .before .before .before .before .before .before .before .before .parse .ensures .few, c .before .before .before .before .before .before .before .before .before .before .before .before .before .parse .kept .1 .1 .0, c .before .before .before .before .before .before .before .before .before .before .before .before .before .before .before .before .before .before .before .before .before .before .before .before .before .before .before .before .before .before .before .before .pre .starts)
+slice-reshare-prefix-append-settled c =
+    let c₁ = c .before .before .before .before .before .before .before .before .before .before .before .before .before in
+    let c₂ = c₁ .before .before .before .before .before .before .before .before .before .before .before .before .before .before .before .before .before .before .before in
+    omega (arith, c₁ .parse .ensures .few, c₁ .parse .kept .1 .1 .0, c₂ .pre .starts)
 
 slice-aggregate-append-settled : tie.Need-slice-aggregate-append-settled
-slice-aggregate-append-settled c = sym (length-take-le _ _ (omega (arith, c .before .before .before .before .before .before .before .before .before .before .before .before .before .before .parse .ensures .few, c .before .before .before .before .before .before .before .before .before .before .before .before .before .before .parse .kept .1 .1 .0, c .before .before .before .before .before .before .before .before .before .before .before .before .before .before .before .before .before .before .before .before .before .before .before .before .before .before .before .before .before .before .before .before .before .pre .starts)))
+slice-aggregate-append-settled c =
+    let c₁ = c .before .before .before .before .before .before .before .before .before .before .before .before .before .before in
+    let c₂ = c₁ .before .before .before .before .before .before .before .before .before .before .before .before .before .before .before .before .before .before .before in
+    sym (length-take-le _ _ (omega (arith, c₁ .parse .ensures .few, c₁ .parse .kept .1 .1 .0, c₂ .pre .starts)))
 
 slice-reshare-prefix-append-settled-2 : tie.Need-slice-reshare-prefix-append-settled-2
-slice-reshare-prefix-append-settled-2 c = omega (arith, c .before .before .before .before .before .before .before .before .before .before .before .before .before .before .parse .ensures .few, c .before .before .before .before .before .before .before .before .before .before .before .before .before .before .parse .kept .1 .1 .1 .0, c .before .before .before .before .before .before .before .before .before .before .before .before .before .before .before .before .before .before .before .before .before .before .before .before .before .before .before .before .before .before .before .before .before .pre .lens)
+slice-reshare-prefix-append-settled-2 c =
+    let c₁ = c .before .before .before .before .before .before .before .before .before .before .before .before .before .before in
+    let c₂ = c₁ .before .before .before .before .before .before .before .before .before .before .before .before .before .before .before .before .before .before .before in
+    omega (arith, c₁ .parse .ensures .few, c₁ .parse .kept .1 .1 .1 .0, c₂ .pre .lens)
 
 slice-aggregate-append-settled-2 : tie.Need-slice-aggregate-append-settled-2
-slice-aggregate-append-settled-2 c = sym (length-take-le _ _ (omega (arith, c .before .before .before .before .before .before .before .before .before .before .before .before .before .before .before .parse .ensures .few, c .before .before .before .before .before .before .before .before .before .before .before .before .before .before .before .parse .kept .1 .1 .1 .0, c .before .before .before .before .before .before .before .before .before .before .before .before .before .before .before .before .before .before .before .before .before .before .before .before .before .before .before .before .before .before .before .before .before .before .pre .lens)))
+slice-aggregate-append-settled-2 c =
+    let c₁ = c .before .before .before .before .before .before .before .before .before .before .before .before .before .before .before in
+    let c₂ = c₁ .before .before .before .before .before .before .before .before .before .before .before .before .before .before .before .before .before .before .before in
+    sym (length-take-le _ _ (omega (arith, c₁ .parse .ensures .few, c₁ .parse .kept .1 .1 .1 .0, c₂ .pre .lens)))
 
 slice-reshare-prefix-append-settled-3 : tie.Need-slice-reshare-prefix-append-settled-3
-slice-reshare-prefix-append-settled-3 c = omega (arith, c .before .before .before .before .before .before .before .before .before .before .before .before .before .before .before .parse .ensures .few, c .before .before .before .before .before .before .before .before .before .before .before .before .before .before .before .parse .kept .1 .1 .1 .1 .0, c .before .before .before .before .before .before .before .before .before .before .before .before .before .before .before .before .before .before .before .before .before .before .before .before .before .before .before .before .before .before .before .before .before .before .pre .spanStarts)
+slice-reshare-prefix-append-settled-3 c =
+    let c₁ = c .before .before .before .before .before .before .before .before .before .before .before .before .before .before .before in
+    let c₂ = c₁ .before .before .before .before .before .before .before .before .before .before .before .before .before .before .before .before .before .before .before in
+    omega (arith, c₁ .parse .ensures .few, c₁ .parse .kept .1 .1 .1 .1 .0, c₂ .pre .spanStarts)
 
 slice-aggregate-append-settled-3 : tie.Need-slice-aggregate-append-settled-3
-slice-aggregate-append-settled-3 c = sym (length-take-le _ _ (omega (arith, c .before .before .before .before .before .before .before .before .before .before .before .before .before .before .before .before .parse .ensures .few, c .before .before .before .before .before .before .before .before .before .before .before .before .before .before .before .before .parse .kept .1 .1 .1 .1 .0, c .before .before .before .before .before .before .before .before .before .before .before .before .before .before .before .before .before .before .before .before .before .before .before .before .before .before .before .before .before .before .before .before .before .before .before .pre .spanStarts)))
+slice-aggregate-append-settled-3 c =
+    let c₁ = c .before .before .before .before .before .before .before .before .before .before .before .before .before .before .before .before in
+    let c₂ = c₁ .before .before .before .before .before .before .before .before .before .before .before .before .before .before .before .before .before .before .before in
+    sym (length-take-le _ _ (omega (arith, c₁ .parse .ensures .few, c₁ .parse .kept .1 .1 .1 .1 .0, c₂ .pre .spanStarts)))
 
 slice-reshare-prefix-append-settled-4 : tie.Need-slice-reshare-prefix-append-settled-4
-slice-reshare-prefix-append-settled-4 c = omega (arith, c .before .before .before .before .before .before .before .before .before .before .before .before .before .before .before .before .parse .ensures .few, c .before .before .before .before .before .before .before .before .before .before .before .before .before .before .before .before .parse .kept .1 .1 .1 .1 .1 .0, c .before .before .before .before .before .before .before .before .before .before .before .before .before .before .before .before .before .before .before .before .before .before .before .before .before .before .before .before .before .before .before .before .before .before .before .pre .spanCounts)
+slice-reshare-prefix-append-settled-4 c =
+    let c₁ = c .before .before .before .before .before .before .before .before .before .before .before .before .before .before .before .before in
+    let c₂ = c₁ .before .before .before .before .before .before .before .before .before .before .before .before .before .before .before .before .before .before .before in
+    omega (arith, c₁ .parse .ensures .few, c₁ .parse .kept .1 .1 .1 .1 .1 .0, c₂ .pre .spanCounts)
 
 slice-aggregate-append-settled-4 : tie.Need-slice-aggregate-append-settled-4
-slice-aggregate-append-settled-4 c = sym (length-take-le _ _ (omega (arith, c .before .before .before .before .before .before .before .before .before .before .before .before .before .before .before .before .before .parse .ensures .few, c .before .before .before .before .before .before .before .before .before .before .before .before .before .before .before .before .before .parse .kept .1 .1 .1 .1 .1 .0, c .before .before .before .before .before .before .before .before .before .before .before .before .before .before .before .before .before .before .before .before .before .before .before .before .before .before .before .before .before .before .before .before .before .before .before .before .pre .spanCounts)))
+slice-aggregate-append-settled-4 c =
+    let c₁ = c .before .before .before .before .before .before .before .before .before .before .before .before .before .before .before .before .before in
+    let c₂ = c₁ .before .before .before .before .before .before .before .before .before .before .before .before .before .before .before .before .before .before .before in
+    sym (length-take-le _ _ (omega (arith, c₁ .parse .ensures .few, c₁ .parse .kept .1 .1 .1 .1 .1 .0, c₂ .pre .spanCounts)))
 
 append-settled-requires : tie.Need-append-settled-requires
 append-settled-requires c κs = search needs
@@ -105,7 +133,13 @@ same-length-17 : tie.Need-same-length-17
 same-length-17 c = search needs
 
 returns-3 : tie.Need-returns-3
-returns-3 c = text-appended _ _ _ _ _ _ (c .before .before .before .before .before .before .before .before .before .before .before .before .before .before .before .before .before .before .before .before .before .before .before .before .before .before .before .before .before .before .before .check-areas .ensures) (c .before .before .before .before .before .before .before .before .before .before .before .before .before .before .before .before .before .before .before .before .before .before .before .before .before .before .before .before .before .if1 .left) _ _ _ _ _ (c .before .before .before .before .before .before .before .before .before .before .before .before .before .before .before .before .before .before .before .before .before .before .before .before .parse .ensures) (c .before .before .before .before .before .before .before .before .before .before .before .before .before .before .if2 .left) _ _ (c .before .before .before .before .before .before .append-settled .ensures)
+returns-3 c =
+    let c₁ = c .before .before .before .before .before .before in
+    let c₂ = c₁ .before .before .before .before .before .before .before .before in
+    let c₃ = c₂ .before .before .before .before .before .before .before .before .before .before in
+    let c₄ = c₃ .before .before .before .before .before in
+    let c₅ = c₄ .before .before in
+    text-appended _ _ _ _ _ _ (c₅ .check-areas .ensures) (c₄ .if1 .left) _ _ _ _ _ (c₃ .parse .ensures) (c₂ .if2 .left) _ _ (c₁ .append-settled .ensures)
 
 pub append-text-spec : {M : Type 1} → statement M
 append-text-spec =

@@ -13,6 +13,9 @@ use std::time::Duration;
 use tables::Run;
 use turns::Setting;
 
+// Room before the archive's code: where the link puts its loops matters (docs/PERFORMANCE.md, "How it is measured").
+std::arch::global_asm!(concat!(".pushsection .text.shift,\"axR\",@progbits\n.space ", env!("SHIFT"), "\n.popsection"));
+
 type Table = fn(&mut Run, &Folder, &Setting);
 
 const TABLES: [(&str, Table); 9] = [

@@ -55,7 +55,16 @@ add-new-checkpoints : tie.Need-add-new-checkpoints
 add-new-checkpoints c = omega (arith, c .before .before .before .before .past3 .ensures .1 (c .before .before .before .if3 .left), c .before .before .before .before .before .before .past2 .ensures .1 (c .before .before .before .before .before .if2 .left), c .before .before .before .before .before .before .before .before .past .ensures .1 (c .before .before .before .before .before .before .before .if1 .left))
 
 returns-4 : tie.Need-returns-4
-returns-4 c = reach-done _ _ _ _ _ _ _ _ _ (c .before .before .before .before .before .before .before .before .past .ensures .0) (c .before .before .before .before .before .before .before .if1 .left) _ (c .before .before .before .before .before .before .before .before .before .before .row-width .ensures .0) _ (c .before .before .before .before .before .before .past2 .ensures .0) (c .before .before .before .before .before .if2 .left) _ _ (c .before .before .before .before .before .before .before .before .before .checkpoint-width .ensures .0) refl _ (c .before .before .before .before .past3 .ensures .0) (c .before .before .before .if3 .left) (omega (arith, c .before .before .before .before .before .before .before .before .past .ensures .1 (c .before .before .before .before .before .before .before .if1 .left)))
+returns-4 c =
+    let c₁ = c .before .before .before in
+    let c₂ = c₁ .before in
+    let c₃ = c₂ .before in
+    let c₄ = c₃ .before in
+    let c₅ = c₄ .before in
+    let c₆ = c₅ .before in
+    let c₇ = c₆ .before in
+    let c₈ = c₇ .before in
+    reach-done _ _ _ _ _ _ _ _ _ (c₆ .past .ensures .0) (c₅ .if1 .left) _ (c₈ .row-width .ensures .0) _ (c₄ .past2 .ensures .0) (c₃ .if2 .left) _ _ (c₇ .checkpoint-width .ensures .0) refl _ (c₂ .past3 .ensures .0) (c₁ .if3 .left) (omega (arith, c₆ .past .ensures .1 (c₅ .if1 .left)))
 
 pub reach-spec : {M : Type 1} → statement M
 reach-spec =

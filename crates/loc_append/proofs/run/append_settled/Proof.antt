@@ -24,7 +24,11 @@ returns : tie.Need-returns
 returns c = append-planned _ _ _ _ _ _ _ (c .before .before .before .before .before .before .before .before .before .before .before .before .before .before .pre .0) (c .before .before .before .before .before .before .before .before .before .before .before .before .before .before .pre .1) _ (c .before .before .before .plan-append .ensures) _ (c .before .if1 .taken) (c .refused .ensures)
 
 append-stores-requires : tie.Need-append-stores-requires
-append-stores-requires c κs = (append-room _ _ _ _ _ (c .before .before .before .before .before .before .before .before .before .before .before .before .before .before .before .before .before .args .places) _ (c .before .before .before .before .before .before .before .before .before .before .before .before .before .before .before .before .before .pre .0) (c .before .before .before .before .before .before .before .before .before .before .before .before .before .before .before .before .before .pre .1) _ (c .before .before .before .before .before .before .plan-append .ensures) (c .before .before .before .before .if1 .left), append-held _ _ _ _ _ (c .before .before .before .before .before .before .before .before .before .before .before .before .before .before .before .before .before .args .places) _ (c .before .before .before .before .before .before .before .before .before .before .before .before .before .before .before .before .before .pre .0) (c .before .before .before .before .before .before .before .before .before .before .before .before .before .before .before .before .before .pre .1) _ (c .before .before .before .before .before .before .plan-append .ensures) (c .before .before .before .before .if1 .left))
+append-stores-requires c κs =
+    let c₁ = c .before .before .before .before in
+    let c₂ = c₁ .before .before in
+    let c₃ = c₂ .before .before .before .before .before .before .before .before .before .before .before in
+    (append-room _ _ _ _ _ (c₃ .args .places) _ (c₃ .pre .0) (c₃ .pre .1) _ (c₂ .plan-append .ensures) (c₁ .if1 .left), append-held _ _ _ _ _ (c₃ .args .places) _ (c₃ .pre .0) (c₃ .pre .1) _ (c₂ .plan-append .ensures) (c₁ .if1 .left))
 
 published-requires : tie.Need-published-requires
 published-requires c κs = search needs
@@ -42,7 +46,12 @@ same-length-6 : tie.Need-same-length-6
 same-length-6 c = search needs
 
 returns-2 : tie.Need-returns-2
-returns-2 c = append-done _ _ _ _ _ _ _ (c .before .before .before .before .before .before .before .before .before .before .before .before .before .before .before .before .before .before .before .before .before .before .before .before .before .before .before .pre .0) (c .before .before .before .before .before .before .before .before .before .before .before .before .before .before .before .before .before .before .before .before .before .before .before .before .before .before .before .pre .1) _ (c .before .before .before .before .before .before .before .before .before .before .before .before .before .before .before .before .plan-append .ensures) (c .before .before .before .before .before .before .before .before .before .before .before .before .before .before .if1 .left) _ _ _ _ _ (c .before .before .before .before .before .before .before .before .before .append-stores .ensures) (c .before .published .ensures .count) (c .accepted .ensures)
+returns-2 c =
+    let c₁ = c .before .before .before .before .before .before .before .before .before in
+    let c₂ = c₁ .before .before .before .before .before in
+    let c₃ = c₂ .before .before in
+    let c₄ = c₃ .before .before .before .before .before .before .before .before .before .before .before in
+    append-done _ _ _ _ _ _ _ (c₄ .pre .0) (c₄ .pre .1) _ (c₃ .plan-append .ensures) (c₂ .if1 .left) _ _ _ _ _ (c₁ .append-stores .ensures) (c .before .published .ensures .count) (c .accepted .ensures)
 
 pub append-settled-spec : {M : Type 1} → statement M
 append-settled-spec =

@@ -48,10 +48,16 @@ returns-2 : tie.Need-returns-2
 returns-2 c = search (needs, open-refused)
 
 rules-requires : tie.Need-rules-requires
-rules-requires c κs = (
-  (not-small (now (c .before .before .before .before .before .before .before .before .before .before .before .before .before .before .before .before .before .before .args .slots)) (now (c .before .before .before .before .before .before .before .before .before .before .before .before .before .before .before .before .before .before .args .rows)) (now (c .before .before .before .before .before .before .before .before .before .before .before .before .before .before .before .before .before .before .args .checkpoints)) _ (c .before .before .before .before .before .before .before .before .before .before .before .too-small .ensures) (c .before .before .before .before .before .before .before .before .before .before .if1 .left), search needs),
-  opened-ascends (c .before .before .before .before .before .before .before .before .before .before .before .before .before .before .before .before .before .before .args .kind) (now (c .before .before .before .before .before .before .before .before .before .before .before .before .before .before .before .before .before .before .args .slots)) (now (c .before .before .before .before .before .before .before .before .before .before .before .before .before .before .before .before .before .before .args .rows)) (now (c .before .before .before .before .before .before .before .before .before .before .before .before .before .before .before .before .before .before .args .checkpoints)) (sym (c .before .before .before .before .open-refusal .ensures _ _ (c .before .before .before .before .before .before .published-areas .ensures)) ∙ c .before .before .before .if2 .left),
-)
+rules-requires c κs =
+    let c₁ = c .before .before .before in
+    let c₂ = c₁ .before in
+    let c₃ = c₂ .before .before in
+    let c₄ = c₃ .before .before .before .before in
+    let c₅ = c₄ .before in
+    let c₆ = c₅ .before .before .before .before .before .before .before in (
+      (not-small (now (c₆ .args .slots)) (now (c₆ .args .rows)) (now (c₆ .args .checkpoints)) _ (c₅ .too-small .ensures) (c₄ .if1 .left), search needs),
+      opened-ascends (c₆ .args .kind) (now (c₆ .args .slots)) (now (c₆ .args .rows)) (now (c₆ .args .checkpoints)) (sym (c₂ .open-refusal .ensures _ _ (c₃ .published-areas .ensures)) ∙ c₁ .if2 .left),
+    )
 
 ends-requires : tie.Need-ends-requires
 ends-requires c κs = search needs
@@ -76,8 +82,17 @@ same-length-9 c = search needs
 
 returns-3 : tie.Need-returns-3
 returns-3 c =
-    open-done (c .before .before .before .before .before .before .before .before .before .before .before .before .before .before .before .before .before .before .before .before .before .before .before .before .before .before .before .before .before .before .before .before .before .args .kind) (now (c .before .before .before .before .before .before .before .before .before .before .before .before .before .before .before .before .before .before .before .before .before .before .before .before .before .before .before .before .before .before .before .before .before .args .slots)) (now (c .before .before .before .before .before .before .before .before .before .before .before .before .before .before .before .before .before .before .before .before .before .before .before .before .before .before .before .before .before .before .before .before .before .args .rows)) (now (c .before .before .before .before .before .before .before .before .before .before .before .before .before .before .before .before .before .before .before .before .before .before .before .before .before .before .before .before .before .before .before .before .before .args .checkpoints)) _ _ (c .before .before .before .before .before .before .before .before .before .before .before .before .before .before .before .before .before .before .before .before .before .before .before .before .before .before .too-small .ensures) _ (c .before .before .before .before .before .before .before .before .before .before .before .before .before .before .before .before .before .before .before .before .before .before .before .before .before .if1 .left) _ (c .before .before .before .before .before .before .before .before .before .before .before .before .before .before .before .before .before .before .before .before .before .published-areas .ensures) _ (c .before .before .before .before .before .before .before .before .before .before .before .before .before .before .before .before .before .before .before .open-refusal .ensures) (c .before .before .before .before .before .before .before .before .before .before .before .before .before .before .before .before .before .before .if2 .left) (search (needs, c .before .before .before .before .before .before .before .before .before .before .before .before .before .before .before .before .before .before .before .before .before .before .before .before .before .before .before .before .before .before .before .before .before .good .1 .0)) (search (needs, c .before .before .before .before .before .before .before .before .before .before .before .before .before .before .before .before .before .before .before .before .before .before .before .before .before .before .before .before .before .before .before .before .before .good .1 .1 .0)) (search (needs, c .before .before .before .before .before .before .before .before .before .before .before .before .before .before .before .before .before .before .before .before .before .before .before .before .before .before .before .before .before .before .before .before .before .good .1 .1 .1 .0))
-    _ (c .before .before .before .before .before .before .before .before .before .before .ends .ensures) _ _ _ _ _ (c .before .before .before .before .before .before .before .before .before .before .before .before .before .before .rules .ensures) (c .before .before .before .before .before .before .before .before .before .store-rules .ensures) (c .before .published .ensures .count) (c .accepted .ensures)
+    let c₁ = c .before .before .before .before .before .before .before .before .before in
+    let c₂ = c₁ .before in
+    let c₃ = c₂ .before .before .before .before in
+    let c₄ = c₃ .before .before .before .before in
+    let c₅ = c₄ .before in
+    let c₆ = c₅ .before .before in
+    let c₇ = c₆ .before .before .before .before in
+    let c₈ = c₇ .before in
+    let c₉ = c₈ .before .before .before .before .before .before .before in
+    open-done (c₉ .args .kind) (now (c₉ .args .slots)) (now (c₉ .args .rows)) (now (c₉ .args .checkpoints)) _ _ (c₈ .too-small .ensures) _ (c₇ .if1 .left) _ (c₆ .published-areas .ensures) _ (c₅ .open-refusal .ensures) (c₄ .if2 .left) (search (needs, c₉ .good .1 .0)) (search (needs, c₉ .good .1 .1 .0)) (search (needs, c₉ .good .1 .1 .1 .0))
+    _ (c₂ .ends .ensures) _ _ _ _ _ (c₃ .rules .ensures) (c₁ .store-rules .ensures) (c .before .published .ensures .count) (c .accepted .ensures)
 
 pub open-run-spec : {M : Type 1} → statement M
 open-run-spec =

@@ -42,11 +42,14 @@ returns-2 : tie.Need-returns-2
 returns-2 c = search (needs, truncate-past)
 
 lengths-requires : tie.Need-lengths-requires
-lengths-requires c κs = (
-  omega arith,
-  accepted-sized (c .before .before .before .before .before .before .before .before .before .before .before .before .args .kind) (now (c .before .before .before .before .before .before .before .before .before .before .before .before .args .slots)) (now (c .before .before .before .before .before .before .before .before .before .before .before .before .args .rows)) (now (c .before .before .before .before .before .before .before .before .before .before .before .before .args .checkpoints)) _ (c .before .before .before .before .before .check-areas .ensures .number) (c .before .before .before .if1 .left) .rowsHold,
-  accepted-ascends (c .before .before .before .before .before .before .before .before .before .before .before .before .args .kind) (now (c .before .before .before .before .before .before .before .before .before .before .before .before .args .slots)) (now (c .before .before .before .before .before .before .before .before .before .before .before .before .args .rows)) (now (c .before .before .before .before .before .before .before .before .before .before .before .before .args .checkpoints)) _ (c .before .before .before .before .before .check-areas .ensures .number) (c .before .before .before .if1 .left),
-)
+lengths-requires c κs =
+    let c₁ = c .before .before .before in
+    let c₂ = c₁ .before .before in
+    let c₃ = c₂ .before .before .before .before .before .before .before in (
+      omega arith,
+      accepted-sized (c₃ .args .kind) (now (c₃ .args .slots)) (now (c₃ .args .rows)) (now (c₃ .args .checkpoints)) _ (c₂ .check-areas .ensures .number) (c₁ .if1 .left) .rowsHold,
+      accepted-ascends (c₃ .args .kind) (now (c₃ .args .slots)) (now (c₃ .args .rows)) (now (c₃ .args .checkpoints)) _ (c₂ .check-areas .ensures .number) (c₁ .if1 .left),
+    )
 
 store-run-requires : tie.Need-store-run-requires
 store-run-requires c κs = search needs

@@ -18,10 +18,14 @@ single-blocks-requires : tie.Need-single-blocks-requires
 single-blocks-requires c κs = (kind-ready _ _ _ _ _ _ _ _ (c .enum-told2 .given .1) (c .before .before .before .before .before .pre .0), c .before .before .before .before .before .pre .1)
 
 returns : tie.Need-returns
-returns c = kind-passed _ _ (c .before .before .before .before .before .before .args .base) (now (c .before .before .before .before .before .before .args .bytes)) (now (c .before .before .before .before .before .before .args .rows)) (now (c .before .before .before .before .before .before .args .mark)) (c .before .before .before .before .before .before .args .stamp) (c .before .before .before .before .before .before .args .s .block) (c .before .before .before .before .before .before .args .full) (c .pair-blocks .result) (c .before .enum-told .given .1) (c .pair-blocks .ensures)
+returns c =
+    let c₁ = c .before .before .before .before .before .before in
+    kind-passed _ _ (c₁ .args .base) (now (c₁ .args .bytes)) (now (c₁ .args .rows)) (now (c₁ .args .mark)) (c₁ .args .stamp) (c₁ .args .s .block) (c₁ .args .full) (c .pair-blocks .result) (c .before .enum-told .given .1) (c .pair-blocks .ensures)
 
 returns-2 : tie.Need-returns-2
-returns-2 c = kind-passed _ _ (c .before .before .before .before .before .before .args .base) (now (c .before .before .before .before .before .before .args .bytes)) (now (c .before .before .before .before .before .before .args .rows)) (now (c .before .before .before .before .before .before .args .mark)) (c .before .before .before .before .before .before .args .stamp) (c .before .before .before .before .before .before .args .s .block) (c .before .before .before .before .before .before .args .full) (c .single-blocks .result) (c .before .enum-told2 .given .1) (c .single-blocks .ensures)
+returns-2 c =
+    let c₁ = c .before .before .before .before .before .before in
+    kind-passed _ _ (c₁ .args .base) (now (c₁ .args .bytes)) (now (c₁ .args .rows)) (now (c₁ .args .mark)) (c₁ .args .stamp) (c₁ .args .s .block) (c₁ .args .full) (c .single-blocks .result) (c .before .enum-told2 .given .1) (c .single-blocks .ensures)
 
 pub blocks-spec : {M : Type 1} → statement M
 blocks-spec =

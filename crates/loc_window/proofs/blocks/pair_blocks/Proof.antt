@@ -18,7 +18,9 @@ abbrev μ-loop : tie.MeasureT-loop
 μ-loop bytes full mark stamp rows count base t₀ t = full - t .block
 
 pair-plain-requires : tie.Need-pair-plain-requires Inv-loop μ-loop
-pair-plain-requires c κs = (c .before .before .before .pre .0 .order, c .before .before .before .pre .0 .few, c .before .before .before .pre .1, c .before .before .before .pre .0 .copied, omega (arith, after-small _ _ _ _ _ _ (omega (arith, c .before .before .before .pre .0 .order, c .before .before .before .pre .0 .few)) (c .before .before .before .pre .0 .after) .0), omega (arith, after-small _ _ _ _ _ _ (omega (arith, c .before .before .before .pre .0 .order, c .before .before .before .pre .0 .few)) (c .before .before .before .pre .0 .after) .1))
+pair-plain-requires c κs =
+    let c₁ = c .before .before .before in
+    (c₁ .pre .0 .order, c₁ .pre .0 .few, c₁ .pre .1, c₁ .pre .0 .copied, omega (arith, after-small _ _ _ _ _ _ (omega (arith, c₁ .pre .0 .order, c₁ .pre .0 .few)) (c₁ .pre .0 .after) .0), omega (arith, after-small _ _ _ _ _ _ (omega (arith, c₁ .pre .0 .order, c₁ .pre .0 .few)) (c₁ .pre .0 .after) .1))
 
 loop-holds : tie.Need-loop-holds Inv-loop μ-loop
 loop-holds c = blocks-begin _ _ _ _ _ _ _ _ _ (c .before .before .before .before .pre .0 .few) (c .before .before .before .before .pre .0 .after) (c .pair-plain .ensures)
@@ -56,7 +58,13 @@ loop-less : tie.Need-loop-less Inv-loop μ-loop
 loop-less c = omega (arith, c .before .before .before .before .before .before .before .if1 .taken, c .pair-plain2 .ensures .more, stepped-next _ _ _ _ _ (c .before .before .before .before .pair-rows .result) (c .before .before .before .before .pair-rows .ensures) (c .before .before .step .given .0 .0) (c .before .before .step .given .1) .0)
 
 loop-again : tie.Need-loop-again Inv-loop μ-loop
-loop-again c = blocks-next _ _ _ _ _ _ _ _ _ _ _ (c .before .before .before .before .before .before .before .before .before .before .before .before .before .before .pre .0 .few) (c .before .before .before .before .before .before .before .before .before .loop .inv) (c .before .before .before .before .before .if2 .left) (stepped-next _ _ _ _ _ (c .before .before .before .before .pair-rows .result) (c .before .before .before .before .pair-rows .ensures) (c .before .before .step .given .0 .0) (c .before .before .step .given .1)) (c .pair-plain2 .ensures)
+loop-again c =
+    let c₁ = c .before .before in
+    let c₂ = c₁ .before .before in
+    let c₃ = c₂ .before in
+    let c₄ = c₃ .before .before .before .before in
+    let c₅ = c₄ .before .before .before .before .before in
+    blocks-next _ _ _ _ _ _ _ _ _ _ _ (c₅ .pre .0 .few) (c₄ .loop .inv) (c₃ .if2 .left) (stepped-next _ _ _ _ _ (c₂ .pair-rows .result) (c₂ .pair-rows .ensures) (c₁ .step .given .0 .0) (c₁ .step .given .1)) (c .pair-plain2 .ensures)
 
 enum-told : tie.Need-enum-told Inv-loop μ-loop
 enum-told c = search needs

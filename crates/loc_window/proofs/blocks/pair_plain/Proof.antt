@@ -66,7 +66,15 @@ loop-less : tie.Need-loop-less Inv-loop μ-loop
 loop-less c = omega arith
 
 loop-again : tie.Need-loop-again Inv-loop μ-loop
-loop-again c = plain-next _ _ _ _ _ _ _ _ _ _ _ _ _ _ (c .before .before .before .before .before .before .before .word-at .ensures) (c .before .before .before .before .before .before .word-at2 .ensures) (c .before .before .before .before .before .before .before .before .before .loop .inv) (c .before .before .before .before .before .before .before .before .loop-test .taken) (c .before .before .before .before .if1 .left) (c .before .before .before .none-zero .ensures (c .before .before .if2 .taken)) (c .before .first-total .ensures .0) (c .second-total .ensures .0) (omega (arith, c .before .first-total .ensures .1)) (omega (arith, c .second-total .ensures .1)) refl
+loop-again c =
+    let c₁ = c .before .before in
+    let c₂ = c₁ .before in
+    let c₃ = c₂ .before in
+    let c₄ = c₃ .before .before in
+    let c₅ = c₄ .before in
+    let c₆ = c₅ .before in
+    let c₇ = c₆ .before in
+    plain-next _ _ _ _ _ _ _ _ _ _ _ _ _ _ (c₅ .word-at .ensures) (c₄ .word-at2 .ensures) (c₇ .loop .inv) (c₆ .loop-test .taken) (c₃ .if1 .left) (c₂ .none-zero .ensures (c₁ .if2 .taken)) (c .before .first-total .ensures .0) (c .second-total .ensures .0) (omega (arith, c .before .first-total .ensures .1)) (omega (arith, c .second-total .ensures .1)) refl
 
 returns-2 : tie.Need-returns-2 Inv-loop μ-loop
 returns-2 c = c .before .before .before .before .before .before .before .loop .inv

@@ -64,7 +64,14 @@ loop-less c = omega arith
 loop-again : tie.Need-loop-again Inv-loop μ-loop
 -- a single block has no spans
 unfolding sumFrom inline
-loop-again c = plain-next _ _ _ _ _ _ _ _ _ _ _ _ 0 _ (c .before .before .before .before .before .before .word-at .ensures) (c .before .before .before .before .before .word-at2 .ensures) (c .before .before .before .before .before .before .before .before .loop .inv) (c .before .before .before .before .before .before .before .loop-test .taken) (c .before .before .before .if1 .left) (c .before .before .none-empty .ensures (c .before .if2 .taken)) (c .strides-total .ensures .0) refl (omega (arith, c .strides-total .ensures .1)) (omega arith) (omega arith)
+loop-again c =
+    let c₁ = c .before .before in
+    let c₂ = c₁ .before in
+    let c₃ = c₂ .before .before in
+    let c₄ = c₃ .before in
+    let c₅ = c₄ .before in
+    let c₆ = c₅ .before in
+    plain-next _ _ _ _ _ _ _ _ _ _ _ _ 0 _ (c₄ .word-at .ensures) (c₃ .word-at2 .ensures) (c₆ .loop .inv) (c₅ .loop-test .taken) (c₂ .if1 .left) (c₁ .none-empty .ensures (c .before .if2 .taken)) (c .strides-total .ensures .0) refl (omega (arith, c .strides-total .ensures .1)) (omega arith) (omega arith)
 
 returns-2 : tie.Need-returns-2 Inv-loop μ-loop
 returns-2 c = c .before .before .before .before .before .before .before .loop .inv

@@ -51,7 +51,12 @@ mul-j c = omega (arith, c .before .before .before .before .before .before .befor
 loop-holds : tie.Need-loop-holds Inv-loop μ-loop
 -- a single block has no spans
 unfolding sumFrom inline
-loop-holds c = (omega arith, omega arith, swap-begin _ _ _ _ _ _ _ _ _ _ 0 _ _ (c .before .before .before .before .before .before .word-at .ensures) (c .before .before .before .before .word-at2 .ensures) (c .before .before .before .before .before .before .before .before .before .before .pre .after) (c .before .before .before .strides-total .ensures .0) refl (omega (arith, c .before .before .before .strides-total .ensures .1)) (omega arith) (omega arith) (c .before .row-mask .ensures .0) (omega arith))
+loop-holds c =
+    let c₁ = c .before .before .before in
+    let c₂ = c₁ .before in
+    let c₃ = c₂ .before .before in
+    let c₄ = c₃ .before .before .before .before in
+    (omega arith, omega arith, swap-begin _ _ _ _ _ _ _ _ _ _ 0 _ _ (c₃ .word-at .ensures) (c₂ .word-at2 .ensures) (c₄ .pre .after) (c₁ .strides-total .ensures .0) refl (omega (arith, c₁ .strides-total .ensures .1)) (omega arith) (omega arith) (c .before .row-mask .ensures .0) (omega arith))
 
 cast-lowest-record : tie.Need-cast-lowest-record Inv-loop μ-loop
 cast-lowest-record c = omega (arith, swap-byte _ _ _ _ _ _ _ _ _ _ (c .before .loop .inv .2) (omega (arith, c .before .loop .inv .0)))
@@ -75,7 +80,12 @@ find-row-requires : tie.Need-find-row-requires Inv-loop μ-loop
 find-row-requires c κs = (c .before .before .before .before .before .before .before .before .before .before .before .before .before .pre .rise, swap-passed _ _ _ _ _ _ _ _ _ _ _ (c .before .before .loop .inv .2) (omega (arith, c .before .before .loop .inv .0)) (c .before .loop-test .taken) (c .lowest-record .ensures) _ (omega arith))
 
 returns : tie.Need-returns Inv-loop μ-loop
-returns c = swap-lack _ _ _ _ _ _ _ _ _ _ _ (c .before .before .before .before .loop .inv .2) (omega (arith, c .before .before .before .before .loop .inv .0)) (c .before .before .before .loop-test .taken) (c .before .before .lowest-record .ensures) _ _ _ (c .before .before .before .before .before .before .before .before .before .before .before .before .before .before .before .pre .rise) (omega arith) (c .before .find-row .ensures) _ (c .if1 .taken) (omega (arith, c .before .before .before .before .loop .inv .1))
+returns c =
+    let c₁ = c .before .before in
+    let c₂ = c₁ .before in
+    let c₃ = c₂ .before in
+    let c₄ = c₃ .before .before .before .before .before .before .before .before .before .before .before in
+    swap-lack _ _ _ _ _ _ _ _ _ _ _ (c₃ .loop .inv .2) (omega (arith, c₃ .loop .inv .0)) (c₂ .loop-test .taken) (c₁ .lowest-record .ensures) _ _ _ (c₄ .pre .rise) (omega arith) (c .before .find-row .ensures) _ (c .if1 .taken) (omega (arith, c₃ .loop .inv .1))
 
 row-value-at-requires : tie.Need-row-value-at-requires Inv-loop μ-loop
 row-value-at-requires c κs = (c .before .before .before .before .before .before .before .before .before .before .before .before .before .before .before .pre .rise, omega (arith, c .before .find-row .ensures .inside, c .if1 .left))
@@ -84,13 +94,23 @@ cast-x : tie.Need-cast-x Inv-loop μ-loop
 cast-x c = search needs
 
 add-x-2 : tie.Need-add-x-2 Inv-loop μ-loop
-add-x-2 c = omega (arith, swap-small _ _ _ _ _ _ _ _ _ _ _ (c .before .before .before .before .before .before .loop .inv .2) (omega (arith, c .before .before .before .before .before .before .loop .inv .0)) (c .before .before .before .before .before .loop-test .taken) (c .before .before .before .before .lowest-record .ensures) (omega (arith, c .before .before .before .before .before .before .loop .inv .1, c .before .before .before .before .before .before .before .before .before .before .before .before .before .before .before .before .before .pre .few)) .0, c .before .row-value-at .ensures .1)
+add-x-2 c =
+    let c₁ = c .before .before .before .before in
+    let c₂ = c₁ .before in
+    let c₃ = c₂ .before in
+    let c₄ = c₃ .before .before .before .before .before .before .before .before .before .before .before in
+    omega (arith, swap-small _ _ _ _ _ _ _ _ _ _ _ (c₃ .loop .inv .2) (omega (arith, c₃ .loop .inv .0)) (c₂ .loop-test .taken) (c₁ .lowest-record .ensures) (omega (arith, c₃ .loop .inv .1, c₄ .pre .few)) .0, c .before .row-value-at .ensures .1)
 
 add-row : tie.Need-add-row Inv-loop μ-loop
 add-row c = omega (arith, c .before .before .before .find-row .ensures .inside, c .before .before .if1 .left, c .before .before .before .before .before .before .before .before .before .before .before .before .before .before .before .before .before .fits)
 
 add-j-2 : tie.Need-add-j-2 Inv-loop μ-loop
-add-j-2 c = omega (arith, swap-in _ _ _ _ _ _ _ _ _ _ _ (c .before .before .before .before .before .before .loop .inv .2) (omega (arith, c .before .before .before .before .before .before .loop .inv .0)) (c .before .before .before .before .before .loop-test .taken) (c .before .before .before .before .lowest-record .ensures), c .before .before .before .before .before .before .loop .inv .1, c .before .before .before .before .before .before .before .before .before .before .before .before .before .before .before .before .before .pre .few)
+add-j-2 c =
+    let c₁ = c .before .before .before .before in
+    let c₂ = c₁ .before in
+    let c₃ = c₂ .before in
+    let c₄ = c₃ .before .before .before .before .before .before .before .before .before .before .before in
+    omega (arith, swap-in _ _ _ _ _ _ _ _ _ _ _ (c₃ .loop .inv .2) (omega (arith, c₃ .loop .inv .0)) (c₂ .loop-test .taken) (c₁ .lowest-record .ensures), c₃ .loop .inv .1, c₄ .pre .few)
 
 mask-after-requires : tie.Need-mask-after-requires Inv-loop μ-loop
 mask-after-requires c κs = omega (arith, swap-in _ _ _ _ _ _ _ _ _ _ _ (c .before .before .before .before .before .before .loop .inv .2) (omega (arith, c .before .before .before .before .before .before .loop .inv .0)) (c .before .before .before .before .before .loop-test .taken) (c .before .before .before .before .lowest-record .ensures), c .before .before .before .before .before .before .loop .inv .0)
@@ -99,14 +119,21 @@ loop-less : tie.Need-loop-less Inv-loop μ-loop
 loop-less c = omega (arith, swap-in _ _ _ _ _ _ _ _ _ _ _ (c .before .before .before .before .before .before .before .loop .inv .2) (omega (arith, c .before .before .before .before .before .before .before .loop .inv .0)) (c .before .before .before .before .before .before .loop-test .taken) (c .before .before .before .before .before .lowest-record .ensures), c .before .before .before .before .before .before .before .loop .inv .1)
 
 loop-again : tie.Need-loop-again Inv-loop μ-loop
-loop-again c = (
-  omega (arith, c .before .before .before .before .before .before .before .loop .inv .0),
-  omega (arith, swap-in _ _ _ _ _ _ _ _ _ _ _ (c .before .before .before .before .before .before .before .loop .inv .2) (omega (arith, c .before .before .before .before .before .before .before .loop .inv .0)) (c .before .before .before .before .before .before .loop-test .taken) (c .before .before .before .before .before .lowest-record .ensures), c .before .before .before .before .before .before .before .loop .inv .1),
-  swap-next _ _ _ _ _ _ _ _ _ _ _ (c .before .before .before .before .before .before .before .loop .inv .2) (omega (arith, c .before .before .before .before .before .before .before .loop .inv .0)) (c .before .before .before .before .before .before .loop-test .taken) (c .before .before .before .before .before .lowest-record .ensures) _ _ _ (c .before .before .before .before .before .before .before .before .before .before .before .before .before .before .before .before .before .before .pre .rise) (omega arith) (c .before .before .before .before .find-row .ensures) (c .before .before .row-value-at .result) _ _ _ _ _ (omega (arith, c .before .before .before .before .find-row .ensures .inside, c .before .before .before .if1 .left)) (c .before .before .row-value-at .ensures .0) (c .before .before .row-value-at .ensures .1) (c .before .before .row-value-at .ensures .2)
-      (omega (arith, single-empty (now (c .before .before .before .before .before .before .before .before .before .before .before .before .before .before .before .before .before .before .args .bytes)) (c .before .before .before .before .before .before .before .loop .j + c .before .before .before .before .before .lowest-record .result) (swap-needs _ _ _ _ _ _ _ _ _ _ _ (c .before .before .before .before .before .before .before .loop .inv .2) (omega (arith, c .before .before .before .before .before .before .before .loop .inv .0)) (c .before .before .before .before .before .before .loop-test .taken) (c .before .before .before .before .before .lowest-record .ensures)) .0))
-      (omega (arith, single-empty (now (c .before .before .before .before .before .before .before .before .before .before .before .before .before .before .before .before .before .before .args .bytes)) (c .before .before .before .before .before .before .before .loop .j + c .before .before .before .before .before .lowest-record .result) (swap-needs _ _ _ _ _ _ _ _ _ _ _ (c .before .before .before .before .before .before .before .loop .inv .2) (omega (arith, c .before .before .before .before .before .before .before .loop .inv .0)) (c .before .before .before .before .before .before .loop-test .taken) (c .before .before .before .before .before .lowest-record .ensures)) .1, single-spans _ _ (c .before .before .row-value-at .ensures .0)))
-      (c .mask-after .ensures) refl (omega (arith, swap-in _ _ _ _ _ _ _ _ _ _ _ (c .before .before .before .before .before .before .before .loop .inv .2) (omega (arith, c .before .before .before .before .before .before .before .loop .inv .0)) (c .before .before .before .before .before .before .loop-test .taken) (c .before .before .before .before .before .lowest-record .ensures), c .before .before .before .before .before .before .before .loop .inv .1)),
-)
+loop-again c =
+    let c₁ = c .before .before in
+    let c₂ = c₁ .before in
+    let c₃ = c₂ .before in
+    let c₄ = c₃ .before in
+    let c₅ = c₄ .before in
+    let c₆ = c₅ .before in
+    let c₇ = c₆ .before .before .before .before .before .before .before .before .before .before .before in (
+      omega (arith, c₆ .loop .inv .0),
+      omega (arith, swap-in _ _ _ _ _ _ _ _ _ _ _ (c₆ .loop .inv .2) (omega (arith, c₆ .loop .inv .0)) (c₅ .loop-test .taken) (c₄ .lowest-record .ensures), c₆ .loop .inv .1),
+      swap-next _ _ _ _ _ _ _ _ _ _ _ (c₆ .loop .inv .2) (omega (arith, c₆ .loop .inv .0)) (c₅ .loop-test .taken) (c₄ .lowest-record .ensures) _ _ _ (c₇ .pre .rise) (omega arith) (c₃ .find-row .ensures) (c₁ .row-value-at .result) _ _ _ _ _ (omega (arith, c₃ .find-row .ensures .inside, c₂ .if1 .left)) (c₁ .row-value-at .ensures .0) (c₁ .row-value-at .ensures .1) (c₁ .row-value-at .ensures .2)
+          (omega (arith, single-empty (now (c₇ .args .bytes)) (c₆ .loop .j + c₄ .lowest-record .result) (swap-needs _ _ _ _ _ _ _ _ _ _ _ (c₆ .loop .inv .2) (omega (arith, c₆ .loop .inv .0)) (c₅ .loop-test .taken) (c₄ .lowest-record .ensures)) .0))
+          (omega (arith, single-empty (now (c₇ .args .bytes)) (c₆ .loop .j + c₄ .lowest-record .result) (swap-needs _ _ _ _ _ _ _ _ _ _ _ (c₆ .loop .inv .2) (omega (arith, c₆ .loop .inv .0)) (c₅ .loop-test .taken) (c₄ .lowest-record .ensures)) .1, single-spans _ _ (c₁ .row-value-at .ensures .0)))
+          (c .mask-after .ensures) refl (omega (arith, swap-in _ _ _ _ _ _ _ _ _ _ _ (c₆ .loop .inv .2) (omega (arith, c₆ .loop .inv .0)) (c₅ .loop-test .taken) (c₄ .lowest-record .ensures), c₆ .loop .inv .1)),
+    )
 
 add-t14 : tie.Need-add-t14 Inv-loop μ-loop
 add-t14 c = search needs

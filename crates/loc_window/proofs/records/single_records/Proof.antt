@@ -118,10 +118,14 @@ loop-less c = search needs
 
 loop-again : tie.Need-loop-again Inv-loop μ-loop
 loop-again c =
-    turned Single _ _ _ _ (c .before .before .before .before .before .loop .k) _ _ _ _ _ _ _ (now (c .before .before .before .before .before .before .before .before .before .before .args .body)) (now (c .before .before .before .before .before .before .before .before .before .before .args .span)) (c .before .before .before .before .before .loop .body) (c .before .before .before .before .before .loop .span) (c .before .before .before .before .before .loop .inv .0) (c .before .before .before .before .loop-test .taken) (c .before .before .before .before .before .before .before .before .before .before .pre .bodyRoom) (c .before .before .before .before .before .before .before .before .before .before .pre .spanRoom) (c .before .before .before .before .before .loop .inv .3)
+    let c₁ = c .before .before .before .before in
+    let c₂ = c₁ .before in
+    let c₃ = c₂ .before .before .before .before in
+    let c₄ = c₃ .before in
+    turned Single _ _ _ _ (c₂ .loop .k) _ _ _ _ _ _ _ (now (c₄ .args .body)) (now (c₄ .args .span)) (c₂ .loop .body) (c₂ .loop .span) (c₂ .loop .inv .0) (c₁ .loop-test .taken) (c₄ .pre .bodyRoom) (c₄ .pre .spanRoom) (c₂ .loop .inv .3)
     (⊎-elim
-    (λ w. sums-held _ _ _ _ _ _ _ _ _ _ _ _ (w .5) refl (w .6) (single-row _ _ _ _ _ _ _ _ _ _ (w .3 .ensures .0) (row-more _ _ _ _ _ _ _ _ _ (c .before .before .before .before .before .before .before .before .before .before .pre .rise) (c .before .needs-row .ensures) (w .0 .taken) refl (w .1 .ensures) _ _ (c .before .before .before .before .before .loop .row) _ _ (w .2 .left) (w .3 .ensures .0) (w .3 .ensures .1) (w .3 .ensures .2) (c .before .before .before .before .before .loop .inv .2))))
-    (λ w. sums-held _ _ _ _ _ _ _ _ _ _ _ _ (w .1) refl (w .2) (single-inline _ _ _ _ _ _ _ _ _ (c .before .needs-row .ensures) (w .0 .left) (c .before .before .before .before .before .before .before .before .before .shared-slice-known .given (2 * c .before .before .before .before .before .loop .k) .fits) (c .before .before .before .before .before .before .before .before .before .shared-slice-known .given (2 * c .before .before .before .before .before .loop .k + 1) .fits) (c .before .before .before .before .before .loop .inv .2)))
+    (λ w. sums-held _ _ _ _ _ _ _ _ _ _ _ _ (w .5) refl (w .6) (single-row _ _ _ _ _ _ _ _ _ _ (w .3 .ensures .0) (row-more _ _ _ _ _ _ _ _ _ (c₄ .pre .rise) (c .before .needs-row .ensures) (w .0 .taken) refl (w .1 .ensures) _ _ (c₂ .loop .row) _ _ (w .2 .left) (w .3 .ensures .0) (w .3 .ensures .1) (w .3 .ensures .2) (c₂ .loop .inv .2))))
+    (λ w. sums-held _ _ _ _ _ _ _ _ _ _ _ _ (w .1) refl (w .2) (single-inline _ _ _ _ _ _ _ _ _ (c .before .needs-row .ensures) (w .0 .left) (c₃ .shared-slice-known .given (2 * c₂ .loop .k) .fits) (c₃ .shared-slice-known .given (2 * c₂ .loop .k + 1) .fits) (c₂ .loop .inv .2)))
     (c .if1 .came))
 
 same-length-3 : tie.Need-same-length-3 Inv-loop μ-loop

@@ -51,13 +51,17 @@ loop-less c = omega arith
 loop-again : tie.Need-loop-again Inv-loop μ-loop
 loop-again c =
     let c₁ = c .before .before in
+    let c₁ = c₁ in
     let c₂ = c₁ .before in
     let c₃ = c₂ .before in
     let c₄ = c₃ .before .before in
     (omega arith, by-pieces (c₄ .args .kind) (now (c₄ .args .rows)) _ _ (c₃ .row-width .ensures .0) (c₄ .pre .0 .counted) (c₂ .loop .p + 1) (c₄ .args .id) (goes-on (c₄ .args .kind) (now (c₄ .args .rows)) _ (c₄ .pre .0) _ _ (c₂ .loop .inv .0) (of-pieces (c₄ .args .kind) (now (c₄ .args .rows)) _ _ (c₃ .row-width .ensures .0) (c₄ .pre .0 .counted) (c₂ .loop .p) (c₄ .args .id) (c₂ .loop .inv .1)) _ _ (c₃ .row-width .ensures .0) (c₃ .row-width .ensures .1) (c₁ .loop-test .taken) (c .before .u64-at .ensures) (c .if1 .left)))
 
 returns-2 : tie.Need-returns-2 Inv-loop μ-loop
-returns-2 c = (stops-last (c .before .before .before .before .args .kind) (now (c .before .before .before .before .args .rows)) _ (c .before .before .before .before .pre .0) _ _ (c .before .loop .inv .0) (of-pieces (c .before .before .before .before .args .kind) (now (c .before .before .before .before .args .rows)) _ _ (c .before .before .row-width .ensures .0) (c .before .before .before .before .pre .0 .counted) (c .before .loop .p) (c .before .before .before .before .args .id) (c .before .loop .inv .1)) (c .loop-test .left), c .before .loop .inv .0)
+returns-2 c =
+    let c₁ = c .before .before in
+    let c₂ = c₁ .before .before in
+    (stops-last (c₂ .args .kind) (now (c₂ .args .rows)) _ (c₂ .pre .0) _ _ (c .before .loop .inv .0) (of-pieces (c₂ .args .kind) (now (c₂ .args .rows)) _ _ (c₁ .row-width .ensures .0) (c₂ .pre .0 .counted) (c .before .loop .p) (c₂ .args .id) (c .before .loop .inv .1)) (c .loop-test .left), c .before .loop .inv .0)
 
 pub rows-from-spec : {M : Type 1} → statement M
 rows-from-spec =

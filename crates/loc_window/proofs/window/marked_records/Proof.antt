@@ -39,7 +39,13 @@ same-length-2 : tie.Need-same-length-2
 same-length-2 c = search needs
 
 returns : tie.Need-returns
-returns c = step-arm _ _ _ _ _ _ _ (c .before .before .before .before .before .before .before .enum-told .given .1) _ _ _ _ _ _ (c .before .before .before .before .pair-records .last .1 .1 .1 .1 .1 .1 .1 .0) (c .before .before .before .before .pair-records .last .1 .1 .1 .1 .1 .1 .1 .1 .0) (c .before .before .before .before .pair-records .result) (c .before .before .before .before .before .before .before .before .before .before .before .before .before .before .before .before .pre .1) (c .before .before .before .before .before .before .before .before .before .before .marked-end .ensures .0) (omega (arith, c .before .before .before .before .before .before .before .before .before .before .marked-end .ensures .1)) (c .before .before .before .before .before .before .before .before .before .block-end .ensures) (c .before .before .before .before .pair-records .ensures)
+returns c =
+    let c₁ = c .before .before .before .before in
+    let c₂ = c₁ .before .before .before in
+    let c₃ = c₂ .before .before in
+    let c₄ = c₃ .before in
+    let c₅ = c₄ .before .before .before .before .before .before in
+    step-arm _ _ _ _ _ _ _ (c₂ .enum-told .given .1) _ _ _ _ _ _ (c₁ .pair-records .last .1 .1 .1 .1 .1 .1 .1 .0) (c₁ .pair-records .last .1 .1 .1 .1 .1 .1 .1 .1 .0) (c₁ .pair-records .result) (c₅ .pre .1) (c₄ .marked-end .ensures .0) (omega (arith, c₄ .marked-end .ensures .1)) (c₃ .block-end .ensures) (c₁ .pair-records .ensures)
 
 same-length-3 : tie.Need-same-length-3
 same-length-3 c = search needs
@@ -48,7 +54,13 @@ same-length-4 : tie.Need-same-length-4
 same-length-4 c = search needs
 
 returns-2 : tie.Need-returns-2
-returns-2 c = step-arm _ _ _ _ _ _ _ (c .before .before .before .before .before .before .before .enum-told2 .given .1) _ _ _ _ _ _ (c .before .before .before .before .single-records .last .1 .1 .1 .1 .1 .1 .1 .0) (c .before .before .before .before .single-records .last .1 .1 .1 .1 .1 .1 .1 .1 .0) (c .before .before .before .before .single-records .result) (c .before .before .before .before .before .before .before .before .before .before .before .before .before .before .before .before .pre .1) (c .before .before .before .before .before .before .before .before .before .before .marked-end .ensures .0) (omega (arith, c .before .before .before .before .before .before .before .before .before .before .marked-end .ensures .1)) (c .before .before .before .before .before .before .before .before .before .block-end .ensures) (c .before .before .before .before .single-records .ensures)
+returns-2 c =
+    let c₁ = c .before .before .before .before in
+    let c₂ = c₁ .before .before .before in
+    let c₃ = c₂ .before .before in
+    let c₄ = c₃ .before in
+    let c₅ = c₄ .before .before .before .before .before .before in
+    step-arm _ _ _ _ _ _ _ (c₂ .enum-told2 .given .1) _ _ _ _ _ _ (c₁ .single-records .last .1 .1 .1 .1 .1 .1 .1 .0) (c₁ .single-records .last .1 .1 .1 .1 .1 .1 .1 .1 .0) (c₁ .single-records .result) (c₅ .pre .1) (c₄ .marked-end .ensures .0) (omega (arith, c₄ .marked-end .ensures .1)) (c₃ .block-end .ensures) (c₁ .single-records .ensures)
 
 pub marked-records-spec : {M : Type 1} → statement M
 marked-records-spec =

@@ -29,8 +29,12 @@ returns c = step-passed _ _ _ _ _ _ _ _ _ _ _ (passed-next _ _ _ _ _ _ _ _ _ _ (
 -- src/window.rt:196:13
 marked-records-requires : tie.Need-marked-records-requires
 marked-records-requires c κs =
-    let b = passed-next _ _ _ _ _ _ _ _ _ _ (c .before .before .before .before .before .step .given .1) (c .before .before .before .before .before .before .before .blocks2 .ensures) in
-    ((c .before .before .before .before .before .before .before .before .before .before .before .before .before .pre .0 .0, c .before .before .if1 .left, ready-later _ _ _ _ _ _ _ _ _ _ _ _ (omega (arith, c .before .before .if1 .left)) (b .after) (c .before .before .before .before .before .before .before .before .before .before .before .before .before .pre .0 .2)), stored-unmarked _ _ _ _ _ _ _ _ _ _ (b .unmarked) (c .before .before .before .before .before .before .before .before .before .before .before .before .before .pre .1))
+    let c₁ = c .before .before in
+    let c₂ = c₁ .before .before .before in
+    let c₃ = c₂ .before .before in
+    let c₄ = c₃ .before .before .before .before .before .before in
+    let b = passed-next _ _ _ _ _ _ _ _ _ _ (c₂ .step .given .1) (c₃ .blocks2 .ensures) in
+    ((c₄ .pre .0 .0, c₁ .if1 .left, ready-later _ _ _ _ _ _ _ _ _ _ _ _ (omega (arith, c₁ .if1 .left)) (b .after) (c₄ .pre .0 .2)), stored-unmarked _ _ _ _ _ _ _ _ _ _ (b .unmarked) (c₄ .pre .1))
 
 -- src/window.rt:210:23
 enum-told : tie.Need-enum-told
@@ -46,7 +50,12 @@ same-length-2 c = search needs
 
 -- src/window.rt:164:1
 returns-2 : tie.Need-returns-2
-returns-2 c = step-later (c .before .before .before .before .before .before .before .before .before .before .before .before .before .before .before .before .before .before .args .kind) (c .before .before .before .before .before .before .before .before .before .before .before .before .before .before .before .before .before .before .args .base) (now (c .before .before .before .before .before .before .before .before .before .before .before .before .before .before .before .before .before .before .args .bytes)) (now (c .before .before .before .before .before .before .before .before .before .before .before .before .before .before .before .before .before .before .args .rows)) (now (c .before .before .before .before .before .before .before .before .before .before .before .before .before .before .before .before .before .before .args .mark)) (c .before .before .before .before .before .before .before .before .before .before .before .before .before .before .before .before .before .before .args .stamp) (c .before .before .before .before .before .before .before .before .before .before .before .before .before .before .before .before .before .before .args .block) _ (c .before .before .before .before .before .before .before .before .before .before .before .before .before .before .before .before .before .before .args .m) (c .before .before .before .before .marked-records .last .1 .1 .1 .1 .1 .1 .1 .1 .1 .0) (c .before .before .before .before .marked-records .last .1 .1 .1 .1 .1 .1 .1 .1 .1 .1 .0) (c .before .before .before .before .marked-records .result) (passed-next _ _ _ _ _ _ _ _ _ _ (c .before .before .before .before .before .before .before .before .before .before .step .given .1) (c .before .before .before .before .before .before .before .before .before .before .before .before .blocks2 .ensures) .more) (c .before .before .before .before .marked-records .ensures)
+returns-2 c =
+    let c₁ = c .before .before .before .before in
+    let c₂ = c₁ .before .before .before .before .before .before in
+    let c₃ = c₂ .before .before in
+    let c₄ = c₃ .before .before .before .before .before .before in
+    step-later (c₄ .args .kind) (c₄ .args .base) (now (c₄ .args .bytes)) (now (c₄ .args .rows)) (now (c₄ .args .mark)) (c₄ .args .stamp) (c₄ .args .block) _ (c₄ .args .m) (c₁ .marked-records .last .1 .1 .1 .1 .1 .1 .1 .1 .1 .0) (c₁ .marked-records .last .1 .1 .1 .1 .1 .1 .1 .1 .1 .1 .0) (c₁ .marked-records .result) (passed-next _ _ _ _ _ _ _ _ _ _ (c₂ .step .given .1) (c₃ .blocks2 .ensures) .more) (c₁ .marked-records .ensures)
 
 -- src/window.rt:164:1
 returns-3 : tie.Need-returns-3
