@@ -288,7 +288,7 @@ fn storing(run: &Run) {
     let open = Figures::of(many.map(|s| s.open.0 * 1e9 / s.line.rows as f64));
     if !run.size.is_empty() {
         println!(
-            "\nThe port's opening has a loop of its own over the rows: {:.2} to {:.2} ns a row.",
+            "\nThe port's opening goes over the rows by the same loop as the checks: {:.2} to {:.2} ns a row.",
             open.least(),
             open.largest()
         );
