@@ -49,13 +49,7 @@ put-window-requires : tie.Need-put-window-requires Inv-loop μ-loop
 put-window-requires c κs = search needs
 
 add-at : tie.Need-add-at Inv-loop μ-loop
-add-at c =
-    let c₁ = c .before .before .before .before .before .before .before in
-    let c₂ = c₁ .before .before .before .before in
-    let c₃ = c₂ .before .before in
-    let c₄ = c₃ .before .before .before in
-    let c₅ = c₄ .before .before .before .before .before .before .before .before in
-    omega (arith, c₅ .pre .3, c₅ .good .1 .1 .1 .1 .1 .1 .0, c₁ .put-window .ensures .2, c₂ .lesser .ensures, c₃ .loop .inv .2, c₄ .names-text .ensures .2)
+add-at c = omega (arith, c .before .before .before .before .before .before .before .before .before .before .before .before .before .before .before .before .before .before .before .before .before .before .before .before .pre .3, c .before .before .before .before .before .before .before .before .before .before .before .before .before .before .before .before .before .before .before .before .before .before .before .before .good .1 .1 .1 .1 .1 .1 .0, c .before .before .before .before .before .before .before .put-window .ensures .2, c .before .before .before .before .before .before .before .before .before .before .before .lesser .ensures, c .before .before .before .before .before .before .before .before .before .before .before .before .before .loop .inv .2, c .before .before .before .before .before .before .before .before .before .before .before .before .before .before .before .before .names-text .ensures .2)
 
 same-length : tie.Need-same-length Inv-loop μ-loop
 same-length c = search needs
@@ -67,14 +61,7 @@ same-length-3 : tie.Need-same-length-3 Inv-loop μ-loop
 same-length-3 c = search needs
 
 returns : tie.Need-returns Inv-loop μ-loop
-returns c =
-    let c₁ = c .before .before .before .before .before .before .before .before .before in
-    let c₂ = c₁ .before .before .before .before in
-    let c₃ = c₂ .before in
-    let c₄ = c₃ .before in
-    let c₅ = c₄ .before .before .before in
-    let c₆ = c₅ .before .before .before .before .before .before .before .before in
-    (names-then _ _ _ _ (omega (arith, c₆ .pre .3)) _ _ _ _ (c₅ .names-text .ensures .0) (turn-refused _ _ _ _ (c₆ .pre .0) _ (c₃ .loop-test .taken) (c₄ .loop .inv .1) _ (c₂ .lesser .ensures) _ _ _ _ _ (c₄ .loop .inv .0) _ (c₁ .put-window .ensures) (c .if1 .taken)), omega (arith, c₆ .pre .3, c₁ .put-window .ensures .2, c₄ .loop .inv .2, c₅ .names-text .ensures .2))
+returns c = (names-then _ _ _ _ (omega (arith, c .before .before .before .before .before .before .before .before .before .before .before .before .before .before .before .before .before .before .before .before .before .before .before .before .before .before .pre .3)) _ _ _ _ (c .before .before .before .before .before .before .before .before .before .before .before .before .before .before .before .before .before .before .names-text .ensures .0) (turn-refused _ _ _ _ (c .before .before .before .before .before .before .before .before .before .before .before .before .before .before .before .before .before .before .before .before .before .before .before .before .before .before .pre .0) _ (c .before .before .before .before .before .before .before .before .before .before .before .before .before .before .loop-test .taken) (c .before .before .before .before .before .before .before .before .before .before .before .before .before .before .before .loop .inv .1) _ (c .before .before .before .before .before .before .before .before .before .before .before .before .before .lesser .ensures) _ _ _ _ _ (c .before .before .before .before .before .before .before .before .before .before .before .before .before .before .before .loop .inv .0) _ (c .before .before .before .before .before .before .before .before .before .put-window .ensures) (c .if1 .taken)), omega (arith, c .before .before .before .before .before .before .before .before .before .before .before .before .before .before .before .before .before .before .before .before .before .before .before .before .before .before .pre .3, c .before .before .before .before .before .before .before .before .before .put-window .ensures .2, c .before .before .before .before .before .before .before .before .before .before .before .before .before .before .before .loop .inv .2, c .before .before .before .before .before .before .before .before .before .before .before .before .before .before .before .before .before .before .names-text .ensures .2))
 
 add-done : tie.Need-add-done Inv-loop μ-loop
 add-done c = search needs
@@ -83,13 +70,7 @@ loop-less : tie.Need-loop-less Inv-loop μ-loop
 loop-less c = search needs
 
 loop-again : tie.Need-loop-again Inv-loop μ-loop
-loop-again c =
-    let c₁ = c .before .before .before .before .before .before .before .before .before in
-    let c₂ = c₁ .before .before .before .before in
-    let c₃ = c₂ .before in
-    let c₄ = c₃ .before in
-    let c₅ = c₄ .before .before .before .before .before .before .before .before .before .before .before in
-    (turn-put _ _ _ _ (c₅ .pre .0) _ (c₃ .loop-test .taken) (c₄ .loop .inv .1) _ (c₂ .lesser .ensures) _ _ _ _ _ (c₄ .loop .inv .0) _ (c₁ .put-window .ensures) (c .if1 .left), turn-left _ _ _ _ (c₅ .pre .0) _ (c₃ .loop-test .taken) (c₄ .loop .inv .1) _ (c₂ .lesser .ensures) _ _ _ _ _ (c₄ .loop .inv .0) _ (c₁ .put-window .ensures) (c .if1 .left), omega (arith, c₁ .put-window .ensures .2, c₄ .loop .inv .2), search needs, search needs, search needs, search needs)
+loop-again c = (turn-put _ _ _ _ (c .before .before .before .before .before .before .before .before .before .before .before .before .before .before .before .before .before .before .before .before .before .before .before .before .before .before .pre .0) _ (c .before .before .before .before .before .before .before .before .before .before .before .before .before .before .loop-test .taken) (c .before .before .before .before .before .before .before .before .before .before .before .before .before .before .before .loop .inv .1) _ (c .before .before .before .before .before .before .before .before .before .before .before .before .before .lesser .ensures) _ _ _ _ _ (c .before .before .before .before .before .before .before .before .before .before .before .before .before .before .before .loop .inv .0) _ (c .before .before .before .before .before .before .before .before .before .put-window .ensures) (c .if1 .left), turn-left _ _ _ _ (c .before .before .before .before .before .before .before .before .before .before .before .before .before .before .before .before .before .before .before .before .before .before .before .before .before .before .pre .0) _ (c .before .before .before .before .before .before .before .before .before .before .before .before .before .before .loop-test .taken) (c .before .before .before .before .before .before .before .before .before .before .before .before .before .before .before .loop .inv .1) _ (c .before .before .before .before .before .before .before .before .before .before .before .before .before .lesser .ensures) _ _ _ _ _ (c .before .before .before .before .before .before .before .before .before .before .before .before .before .before .before .loop .inv .0) _ (c .before .before .before .before .before .before .before .before .before .put-window .ensures) (c .if1 .left), omega (arith, c .before .before .before .before .before .before .before .before .before .put-window .ensures .2, c .before .before .before .before .before .before .before .before .before .before .before .before .before .before .before .loop .inv .2), search needs, search needs, search needs, search needs)
 
 same-length-4 : tie.Need-same-length-4 Inv-loop μ-loop
 same-length-4 c = search needs
@@ -101,10 +82,7 @@ same-length-6 : tie.Need-same-length-6 Inv-loop μ-loop
 same-length-6 c = search needs
 
 returns-2 : tie.Need-returns-2 Inv-loop μ-loop
-returns-2 c =
-    let c₁ = c .before .before .before .before in
-    let c₂ = c₁ .before .before .before .before .before .before .before .before in
-    (names-then _ _ _ _ (omega (arith, c₂ .pre .3)) _ _ _ _ (c₁ .names-text .ensures .0) (turns-done _ _ _ _ (c₂ .pre .0) _ (c .loop-test .left) (c .before .loop .inv .1) _ _ _ _ (c .before .loop .inv .0)), omega (arith, c₂ .pre .3, c .before .loop .inv .2, c₁ .names-text .ensures .2))
+returns-2 c = (names-then _ _ _ _ (omega (arith, c .before .before .before .before .before .before .before .before .before .before .before .before .pre .3)) _ _ _ _ (c .before .before .before .before .names-text .ensures .0) (turns-done _ _ _ _ (c .before .before .before .before .before .before .before .before .before .before .before .before .pre .0) _ (c .loop-test .left) (c .before .loop .inv .1) _ _ _ _ (c .before .loop .inv .0)), omega (arith, c .before .before .before .before .before .before .before .before .before .before .before .before .pre .3, c .before .loop .inv .2, c .before .before .before .before .names-text .ensures .2))
 
 pub put-windows-spec : {M : Type 1} → statement M
 put-windows-spec =

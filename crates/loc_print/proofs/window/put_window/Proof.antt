@@ -32,13 +32,7 @@ same-length-3 : tie.Need-same-length-3
 same-length-3 c = search needs
 
 returns : tie.Need-returns
-returns c =
-    let c₁ = c .before .before in
-    let c₂ = c₁ .before .before in
-    let c₃ = c₂ .before .before .before in
-    let c₄ = c₃ .before .before .before .before .before in
-    let c₅ = c₄ .before .before .before .before .before .before .before .before in
-    window-refused _ _ _ (c₅ .pre .1) _ (c₅ .pre .3) _ (c₄ .fill-numbers .ensures) _ _ (c₃ .range-batch .ensures) (c₂ .if1 .taken) (c₅ .pre .0) _ _ _ (c₅ .pre .4) (c₁ .refused-text .ensures)
+returns c = window-refused _ _ _ (c .before .before .before .before .before .before .before .before .before .before .before .before .before .before .before .before .before .before .before .before .pre .1) _ (c .before .before .before .before .before .before .before .before .before .before .before .before .before .before .before .before .before .before .before .before .pre .3) _ (c .before .before .before .before .before .before .before .before .before .before .before .before .fill-numbers .ensures) _ _ (c .before .before .before .before .before .before .before .range-batch .ensures) (c .before .before .before .before .if1 .taken) (c .before .before .before .before .before .before .before .before .before .before .before .before .before .before .before .before .before .before .before .before .pre .0) _ _ _ (c .before .before .before .before .before .before .before .before .before .before .before .before .before .before .before .before .before .before .before .before .pre .4) (c .before .before .refused-text .ensures)
 
 add-window-text : tie.Need-add-window-text
 add-window-text c = search needs
@@ -56,13 +50,7 @@ same-length-6 : tie.Need-same-length-6
 same-length-6 c = search needs
 
 returns-2 : tie.Need-returns-2
-returns-2 c =
-    let c₁ = c .before .before in
-    let c₂ = c₁ .before .before .before in
-    let c₃ = c₂ .before .before .before in
-    let c₄ = c₃ .before .before .before .before .before in
-    let c₅ = c₄ .before .before .before .before .before .before .before .before in
-    window-read _ _ _ (c₅ .pre .1) _ (c₅ .pre .3) _ (c₄ .fill-numbers .ensures) _ _ (c₃ .range-batch .ensures) (c₂ .if1 .left) (c₅ .pre .5) _ _ _ (c₅ .pre .4) (c₃ .range-batch .kept .1 .1 .1 .1 .0) (c₁ .window-text .ensures)
+returns-2 c = window-read _ _ _ (c .before .before .before .before .before .before .before .before .before .before .before .before .before .before .before .before .before .before .before .before .before .pre .1) _ (c .before .before .before .before .before .before .before .before .before .before .before .before .before .before .before .before .before .before .before .before .before .pre .3) _ (c .before .before .before .before .before .before .before .before .before .before .before .before .before .fill-numbers .ensures) _ _ (c .before .before .before .before .before .before .before .before .range-batch .ensures) (c .before .before .before .before .before .if1 .left) (c .before .before .before .before .before .before .before .before .before .before .before .before .before .before .before .before .before .before .before .before .before .pre .5) _ _ _ (c .before .before .before .before .before .before .before .before .before .before .before .before .before .before .before .before .before .before .before .before .before .pre .4) (c .before .before .before .before .before .before .before .before .range-batch .kept .1 .1 .1 .1 .0) (c .before .before .window-text .ensures)
 
 pub put-window-spec : {M : Type 1} → statement M
 put-window-spec =
