@@ -14,10 +14,11 @@ use lib.Seq.{take-take, drop-drop}
 use borrow.Author.Tests.{lt-ltb, le-ltb, le-leb, lt-leb, eq-eqb, ne-eqb, ltb-true, ltb-false, leb-true, leb-false, eqb-true, eqb-false}
 use Rattle.loc_leaf.specs.declared.Kind.{Kind}
 use Rattle.loc_leaf.specs.declared.Kind.the-variants.{Paired, Single}
+use Rattle.loc_leaf.specs.declared.delta_loc.Lookup.the-variants.{Found, Missing}
 use Rattle.loc_leaf.specs.Bytes.{Bytes, number, numberAt}
 use Rattle.loc_leaf.specs.Area.{counted, pieces, fill, published}
 use Rattle.loc_leaf.specs.Kind.{rowWidth}
-use Rattle.loc_leaf.specs.Rows.{rowNumber, rowValue, rowList, ascending, lastNumber, rowsUpTo, rowFor, hasRow, lookup, halve, numberIn, rowsUpToByHalves, lookupBefore, lookupByHalves}
+use Rattle.loc_leaf.specs.Rows.{rowNumber, rowValue, rowList, ascending, lastNumber, rowsUpTo, rowFor, hasRow, lookup, halve, numberIn, rowsUpToByHalves}
 use Rattle.loc_leaf.proofs.Booleans.{both-left, both-right, is?}
 use Rattle.loc_leaf.proofs.AreaLaws.{take-drop, counted-le, length-pieces, pieces-get}
 
@@ -281,7 +282,7 @@ module _ (rs : List Bytes) (a : ascending 0 rs ≡ true) (n : ℕ) where
                   (eq-or-lt-of-le h)
       go (inr e) more = rw e (record { inside = omega arith; upTo = up; above = λ i h. past i (omega (arith, ltb-false lo hi e)) })
 
-  pub by-halves-parts : Parts n rs (rowsUpToByHalves n rs)
+  by-halves-parts : Parts n rs (rowsUpToByHalves n rs)
   unfolding rowsUpToByHalves
   by-halves-parts = halve-parts (length rs) 0 (length rs) (omega arith) (omega arith) (omega arith) (λ i h. absurd (not-suc-le-zero h)) (λ i h g. absurd (omega arith))
 
@@ -303,30 +304,16 @@ has-first n (suc q) (r ∷ rs) g e h =
     let more : (hasRow n rs ≡ true) × (rowFor n rs ≡ getD rs q []) = has-first n q rs (le-of-suc-le-suc g) e (λ i l. h (suc i) (omega arith)) in
     (rw x (more .0), rw x (more .1))
 
-module _ (k : Kind) (rs : List Bytes) (a : ascending 0 rs ≡ true) (n : ℕ) where
-  before-is : (p : ℕ) → Parts n rs p → lookupBefore k n rs p ≡ lookup k n rs
-  unfolding lookupBefore lookup
-  before-is zero b = rw (has-none n rs (λ i g e. omega (arith, b .above i (omega arith) g))) refl
-  before-is (suc q) b = go (is? (eqb (numberIn rs q) n))
-    where
-      go : (eqb (numberIn rs q) n ≡ true) ⊎ (eqb (numberIn rs q) n ≡ false) → lookupBefore k n rs (suc q) ≡ lookup k n rs
-      go (inl t) = rw (t, it .0, it .1) refl
-        where
-          it : (hasRow n rs ≡ true) × (rowFor n rs ≡ getD rs q [])
-          it = has-first n q rs (b .inside) (eqb-true (numberIn rs q) n t) (λ i l e. omega (arith, rising 0 rs a i q l (b .inside), eqb-true (numberIn rs q) n t))
-      go (inr t) = rw (t, has-none n rs differs) refl
-        where
-          differs : (i : ℕ) → i < length rs → numberIn rs i ≡ n → ⊥
-          differs i g e = by (decLe (suc q) i)
-            where
-              by : Dec (suc q ≤ i) → ⊥
-              by (yes l) = omega (arith, b .above i l g)
-              by (no l) =
-                  ⊎-elim
-                  (λ (w : i ≡ q). eqb-false (numberIn rs q) n t (rw w at e))
-                  (λ (s : i < q). omega (arith, rising 0 rs a i q s (b .inside), b .upTo q (omega arith)))
-                  (eq-or-lt-of-le (omega arith))
+module _ (k : Kind) (rs : List Bytes) (n : ℕ) where
+  -- no row has the number
+  pub lookup-none : ((i : ℕ) → i < length rs → numberIn rs i ≡ n → ⊥) → lookup k n rs ≡ Missing
+  unfolding lookup
+  lookup-none h = rw (has-none n rs h) refl
 
-  pub lookup-by-halves : lookupByHalves k n rs ≡ lookup k n rs
-  unfolding lookupByHalves
-  lookup-by-halves = before-is (rowsUpToByHalves n rs) (by-halves-parts rs a n)
+  -- the row that has it, where rows ascend
+  pub lookup-at : (i : ℕ) → ascending 0 rs ≡ true → i < length rs → numberIn rs i ≡ n → lookup k n rs ≡ Found (rowValue k (getD rs i []))
+  unfolding lookup
+  lookup-at i a h e = rw (it .0, it .1) refl
+    where
+      it : (hasRow n rs ≡ true) × (rowFor n rs ≡ getD rs i [])
+      it = has-first n i rs h e (λ j l q. omega (arith, rising 0 rs a j i l h))

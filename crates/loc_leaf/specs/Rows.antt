@@ -68,7 +68,7 @@ unfoldable pub valueIn : Lookup → Value
 valueIn (Found v) = v
 valueIn Missing = record { strides = 0; spans = 0 }
 
--- ---- the search by halves: what it gives for any rows; where they ascend, rowsUpTo and lookup (proofs/RowLaws)
+-- ---- the search by halves: what it gives for any rows; where they ascend, rowsUpTo (proofs/RowLaws)
 
 -- between lo and hi, by the number in the middle; t bounds the turns
 unfoldable pub halve : (ℕ → ℕ) → ℕ → ℕ → ℕ → ℕ → ℕ
@@ -84,11 +84,3 @@ numberIn rs i = rowNumber (getD rs i [])
 
 unfoldable pub rowsUpToByHalves : ℕ → List Bytes → ℕ
 rowsUpToByHalves n rs = halve (numberIn rs) n (length rs) 0 (length rs)
-
--- the last of p rows, if it has this number
-unfoldable pub lookupBefore : Kind → ℕ → List Bytes → ℕ → Lookup
-lookupBefore k n rs zero = Missing
-lookupBefore k n rs (suc p) = cond (eqb (numberIn rs p) n) (Found (rowValue k (getD rs p []))) Missing
-
-unfoldable pub lookupByHalves : Kind → ℕ → List Bytes → Lookup
-lookupByHalves k n rs = lookupBefore k n rs (rowsUpToByHalves n rs)

@@ -1,6 +1,7 @@
 // Strides, slots, the checkpoint and cut rules, and overflow rows (delta_loc.rs, leaf part).
 // A row area is handed over whole; its published rows are counted here.
 ghost use mathlib.Core.Path.{_≡_};
+ghost use mathlib.Core.Bool.{cond};
 ghost use mathlib.Core.List.{[], _∷_};
 ghost use Prim.Native.Nat.{_+_, _-_, _*_, _^_, _≤_, _<_, min, max};
 ghost use Rattle.loc_leaf.specs.Bytes.{byte};
@@ -68,6 +69,13 @@ pub fn larger(a: u64, b: u64) -> u64
     ensures { λ r. ⌜ r ≡ max a b ⌝ }
 {
     if b < a { a } else { b }
+}
+
+// 1 where a test holds, else 0: a count without a branch.
+pub fn one_if(c: bool) -> usize
+    ensures { λ r. ⌜ (r ≡ cond c 1 0) × (r ≤ 1) ⌝ }
+{
+    if c { 1 } else { 0 }
 }
 
 // A sum that stops at the largest number.

@@ -13,6 +13,7 @@ use Rattle.loc_leaf.specs.declared.Kind.{Kind}
 use Rattle.loc_leaf.specs.declared.Kind.the-variants.{Paired}
 use Rattle.loc_leaf.specs.Bytes.{Bytes}
 use Rattle.loc_leaf.specs.Kind.{windowOf}
+use Rattle.loc_leaf.specs.Rows.{rowsUpTo}
 use Rattle.loc_leaf.proofs.Booleans.{is?}
 use Rattle.loc_calls.specs.Areas.{Areas, count}
 use Rattle.loc_calls.specs.Table.{wordWidth}
@@ -23,7 +24,9 @@ use Rattle.loc_order.proofs.OrderLaws.{all-of}
 use Rattle.loc_order.proofs.KeyLaws.{keys-right, keys-meet, places-at}
 use Rattle.loc_answer.specs.Words.{RunSafe, Agrees, RunPut}
 use Rattle.loc_answer.proofs.AnswerLaws.{zeros-has}
+use Rattle.loc_window.specs.declared.PlannedWindow.{PlannedWindow}
 use Rattle.loc_window.specs.Window.{windowAreas, complete, Copied}
+use Rattle.loc_window.specs.Planned.{planned}
 use Rattle.loc_runs.specs.Runs.{IsRun}
 use Rattle.loc_read.specs.Walk.{Readable, InArrays, rightAt, HasRight, Passing, Answered, Finished}
 use Rattle.loc_runs.proofs.RunLaws.{looked-few, looked-counted, key-there, key-some, key-counted, own-number}
@@ -50,77 +53,93 @@ pub passing-none : (k : Kind) (a : Areas) (ids keys out : List ℕ) → Passing 
 passing-none k a ids keys out =
     record { inside = omega arith; long = refl; answers = λ t h. absurd (not-suc-le-zero h); complete = λ t h. absurd (not-suc-le-zero h); kept = λ p h. h }
 
-module _ (k : Kind) (a : Areas) (n nr : ℕ) (ids keys : List ℕ) (rd : Readable k a n nr) (ks : All (KeyOf n ids) keys)
-    (i end m stamp : ℕ) (mark : List ℕ) (run : IsRun k n ids keys i end m stamp mark) where
-  pub run-few : m ≤ 1024
-  run-few = omega (arith, run .isMost, looked-few k n (wantedBy ids keys (run .most)))
+-- ---- a window's turn
 
-  module _ (f : ℕ) (first : f ≡ before (wantedBy ids keys i)) where
-    -- the window's records that are looked at are published
-    pub run-published : f + m ≤ n
-    run-published = omega (arith, looked-counted k n (wantedBy ids keys (run .most)) some (key-counted n ids keys ks (run .most) there _ refl), run .isMost, own)
-      where
-        there : run .most < length keys
-        there = omega (arith, run .mostEnd, run .inside)
+-- a planned window is that of a run of keys, of which it has the records that they look at
+pub record Turn (k : Kind) (a : Areas) (n nr : ℕ) (ids keys : List ℕ) (i end stamp : ℕ) (mark : List ℕ) (window : PlannedWindow) : Type 0 where
+  pub readable : Readable k a n nr
+  pub known : All (KeyOf n ids) keys
+  pub run : IsRun k n ids keys i end (window .m) stamp mark
+  pub first : window .base ≡ before (wantedBy ids keys i)
 
-        some : 0 < wantedBy ids keys (run .most)
-        some = key-some n ids keys ks (run .most) there _ refl
+pub turn : (k : Kind) (a : Areas) (n nr : ℕ) (ids keys : List ℕ) (i end stamp : ℕ) (mark : List ℕ) (window : PlannedWindow) (rs : List Bytes) (id w m : ℕ) → window ≡ planned rs (1024 * w) m
+    → w ≡ windowOf id → id ≡ wantedBy ids keys i → Readable k a n nr → All (KeyOf n ids) keys → IsRun k n ids keys i end m stamp mark → Turn k a n nr ids keys i end stamp mark window
+turn k a n nr ids keys i end stamp mark window rs id w m e ew ei rd ks run =
+    subst⁻¹ (Turn k a n nr ids keys i end stamp mark) e (record { readable = rd; known = ks; run = run; first = ap (λ (x : ℕ). 1024 * x) (ew ∙ ap windowOf ei) })
 
-        own : before (wantedBy ids keys (run .most)) ≡ f
-        own = ap (λ (w : ℕ). 1024 * w) (run .window (run .most) (run .mostFrom) (run .mostEnd)) ∙ sym first
+-- its rows end where those of the next window begin
+pub planned-past : (rs : List Bytes) (f m : ℕ) (window : PlannedWindow) → window ≡ planned rs f m → window .past ≡ rowsUpTo (window .base + 1024) rs
+planned-past rs f m window e = subst⁻¹ (λ (v : PlannedWindow). v .past ≡ rowsUpTo (v .base + 1024) rs) e refl
 
-    pub run-room : 16 + 2 * f + 2 * m ≤ length (a .slots)
-    run-room = omega (arith, run-published, rd .room)
+module _ (k : Kind) (a : Areas) (n nr : ℕ) (ids keys : List ℕ) (i end stamp : ℕ) (mark : List ℕ) (window : PlannedWindow) (u : Turn k a n nr ids keys i end stamp mark window) where
+  pub turn-few : window .m ≤ 1024
+  turn-few = omega (arith, u .run .isMost, looked-few k n (wantedBy ids keys (u .run .most)))
 
-    pub run-low : f + 1024 < 2 ^ 64
-    run-low = omega (arith, run-published, rd .low)
+  -- the window's records that are looked at are published
+  turn-published : window .base + window .m ≤ n
+  turn-published = omega (arith, looked-counted k n (wantedBy ids keys (u .run .most)) some (key-counted n ids keys (u .known) (u .run .most) there _ refl), u .run .isMost, own)
+    where
+      there : u .run .most < length keys
+      there = omega (arith, u .run .mostEnd, u .run .inside)
 
-    module _ (bytes old : Bytes) (copied : Copied (a .slots) (16 + 2 * f) (2 * m) old bytes) where
-      -- the slot loop ends the walk
-      pub run-lacks : complete k (windowAreas f bytes (a .rows)) f m ≡ false → anyMissing k a ids ≡ true
-      run-lacks e =
-          any-at k a ids (placeOf (getD keys (run .most) 0)) (key-there n ids keys ks (run .most) (omega (arith, run .mostEnd, run .inside)))
-          (window-lacks k a n nr ids keys i end f m stamp mark bytes old [] [] rd ks run first copied e)
+      some : 0 < wantedBy ids keys (u .run .most)
+      some = key-some n ids keys (u .known) (u .run .most) there _ refl
 
-      module _ (body span : List ℕ) (w : InArrays k f m bytes (a .rows) mark stamp body span) where
-        pub run-safe : (out : List ℕ) → wordWidth k * length ids ≤ length out → RunSafe k ids keys i end body span out
-        run-safe out room =
+      own : before (wantedBy ids keys (u .run .most)) ≡ window .base
+      own = ap (λ (w : ℕ). 1024 * w) (u .run .window (u .run .most) (u .run .mostFrom) (u .run .mostEnd)) ∙ sym (u .first)
+
+  pub turn-room : 16 + 2 * window .base + 2 * window .m ≤ length (a .slots)
+  turn-room = omega (arith, turn-published, u .readable .room)
+
+  pub turn-low : (window .base + 1024 < 2 ^ 64) × (16 + 2 * window .base < 2 ^ 64)
+  turn-low = (omega (arith, turn-published, u .readable .low), omega (arith, turn-published, u .readable .low))
+
+  module _ (bytes old : Bytes) (copied : Copied (a .slots) (16 + 2 * window .base) (2 * window .m) old bytes) where
+    -- the slot loop ends the walk
+    pub turn-lacks : complete k (windowAreas (window .base) bytes (a .rows)) (window .base) (window .m) ≡ false → anyMissing k a ids ≡ true
+    turn-lacks e =
+        any-at k a ids (placeOf (getD keys (u .run .most) 0)) (key-there n ids keys (u .known) (u .run .most) (omega (arith, u .run .mostEnd, u .run .inside)))
+        (window-lacks k a n nr ids keys i end (window .base) (window .m) stamp mark bytes old [] [] (u .readable) (u .known) (u .run) (u .first) copied e)
+
+    module _ (body span : List ℕ) (w : InArrays k (window .base) (window .m) bytes (a .rows) mark stamp body span) where
+      pub turn-safe : (out : List ℕ) → wordWidth k * length ids ≤ length out → RunSafe k ids keys i end body span out
+      turn-safe out room =
+          record {
+            order = omega (arith, u .run .more);
+            inside = u .run .inside;
+            room = room;
+            place = λ t l g. key-there n ids keys (u .known) t (omega (arith, u .run .inside));
+            summed = λ t l g. window-summed k a n nr ids keys i end (window .base) (window .m) stamp mark bytes old body span (u .readable) (u .known) (u .run) (u .first) copied w t l g;
+          }
+
+      module _ (b e : ℕ) (eb : b ≡ windowEnd k a 0 (windowOf (wantedBy ids keys i))) (ee : k ≡ Paired → e ≡ windowEnd k a 8 (windowOf (wantedBy ids keys i))) where
+        agrees : Agrees k ids keys i end b e body span (rightAt k a ids)
+        unfolding Agrees
+        agrees t l g = window-words k a n nr ids keys i end (window .base) (window .m) stamp mark bytes old body span (u .readable) (u .known) (u .run) (u .first) copied w t l g b e eb ee
+
+        pub passing-next : (out₀ out out′ : List ℕ) → Passing k a ids keys i out₀ out → RunPut k ids keys i end b e body span out out′ → Passing k a ids keys end out₀ out′
+        passing-next out₀ out out′ p r =
             record {
-              order = omega (arith, run .more);
-              inside = run .inside;
-              room = room;
-              place = λ t l g. key-there n ids keys ks t (omega (arith, run .inside));
-              summed = λ t l g. window-summed k a n nr ids keys i end f m stamp mark bytes old body span rd ks run first copied w t l g;
+              inside = u .run .inside;
+              long = r .long ∙ p .long;
+              answers = answers;
+              complete = complete;
+              kept = λ q z. r .kept (rightAt k a ids) agrees q (p .kept q z);
             }
+          where
+            answers : (t : ℕ) → t < end → HasRight k a ids out′ (placeOf (getD keys t 0))
+            answers t g =
+                ⊎-elim
+                (λ (l : t < i). r .kept (rightAt k a ids) agrees (placeOf (getD keys t 0)) (p .answers t l))
+                (λ (l : i ≤ t). r .put (rightAt k a ids) agrees t l g)
+                (before-or-from t i)
 
-        module _ (b e : ℕ) (eb : b ≡ windowEnd k a 0 (windowOf (wantedBy ids keys i))) (ee : k ≡ Paired → e ≡ windowEnd k a 8 (windowOf (wantedBy ids keys i))) where
-          agrees : Agrees k ids keys i end b e body span (rightAt k a ids)
-          unfolding Agrees
-          agrees t l g = window-words k a n nr ids keys i end f m stamp mark bytes old body span rd ks run first copied w t l g b e eb ee
-
-          pub passing-next : (out₀ out out′ : List ℕ) → Passing k a ids keys i out₀ out → RunPut k ids keys i end b e body span out out′ → Passing k a ids keys end out₀ out′
-          passing-next out₀ out out′ p r =
-              record {
-                inside = run .inside;
-                long = r .long ∙ p .long;
-                answers = answers;
-                complete = complete;
-                kept = λ q z. r .kept (rightAt k a ids) agrees q (p .kept q z);
-              }
-            where
-              answers : (t : ℕ) → t < end → HasRight k a ids out′ (placeOf (getD keys t 0))
-              answers t g =
-                  ⊎-elim
-                  (λ (l : t < i). r .kept (rightAt k a ids) agrees (placeOf (getD keys t 0)) (p .answers t l))
-                  (λ (l : i ≤ t). r .put (rightAt k a ids) agrees t l g)
-                  (before-or-from t i)
-
-              complete : (t : ℕ) → t < end → rowMissing k a (wantedBy ids keys t) ≡ false
-              complete t g =
-                  ⊎-elim
-                  (λ (l : t < i). p .complete t l)
-                  (λ (l : i ≤ t). window-complete k a n nr ids keys i end f m stamp mark bytes old body span rd ks run first copied w t l g)
-                  (before-or-from t i)
+            complete : (t : ℕ) → t < end → rowMissing k a (wantedBy ids keys t) ≡ false
+            complete t g =
+                ⊎-elim
+                (λ (l : t < i). p .complete t l)
+                (λ (l : i ≤ t). window-complete k a n nr ids keys i end (window .base) (window .m) stamp mark bytes old body span (u .readable) (u .known) (u .run) (u .first) copied w t l g)
+                (before-or-from t i)
 
 -- ---- the end of the walk
 

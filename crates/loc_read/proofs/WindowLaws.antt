@@ -1,7 +1,7 @@
 -- One window of the walk: where its slot loop begins, and what its sums say of the wanted numbers that lie in it.
 -- f is the record before the window, m how many of its records are looked at.
 use Prim.Native.Nat.{ℕ, suc, _+_, _-_, _*_, _^_, _≤_, _<_}
-use mathlib.Core.Path.{_≡_, refl, sym, ap, _∙_}
+use mathlib.Core.Path.{_≡_, refl, sym, ap, _∙_, subst⁻¹}
 use mathlib.Core.Logic.{_⊎_, inl, inr}
 use mathlib.Core.Bool.{Bool, true, false, not, _&&_, false≢true}
 use mathlib.Core.List.{List}
@@ -14,6 +14,7 @@ use Rattle.loc_leaf.specs.declared.Kind.the-variants.{Paired, Single}
 use Rattle.loc_leaf.specs.declared.Value.{Value}
 use Rattle.loc_leaf.specs.Bytes.{Bytes}
 use Rattle.loc_leaf.specs.Kind.{windowOf, withinWindow}
+use Rattle.loc_leaf.specs.Rows.{rowList}
 use Rattle.loc_leaf.proofs.Booleans.{is?}
 use Rattle.loc_calls.specs.Areas.{Areas}
 use Rattle.loc_calls.specs.Reading.{sumAfter, lookupAt, has, valueAt, stridesAfter, spansAfter, before, windowEnd, lookedAt, within, rowMissing, words, wordsFor}
@@ -21,10 +22,13 @@ use Rattle.loc_order.specs.Order.{All}
 use Rattle.loc_order.specs.Keys.{wantedBy, KeyOf}
 use Rattle.loc_order.proofs.OrderLaws.{all-at}
 use Rattle.loc_answer.specs.Words.{Summed, sumWords}
+use Rattle.loc_window.specs.declared.PlannedWindow.{PlannedWindow}
 use Rattle.loc_window.specs.declared.Sums.{Sums}
 use Rattle.loc_window.specs.Window.{windowAreas, complete, Rising, sumsOf, Right, Summing, Copied}
+use Rattle.loc_window.specs.Planned.{planned}
 use Rattle.loc_window.proofs.SumLaws.{all-more}
-use Rattle.loc_window.proofs.WindowLaws.{past-rows, complete-same, right-strides, right-spans}
+use Rattle.loc_window.proofs.PlannedLaws.{planned-before, planned-passed}
+use Rattle.loc_window.proofs.WindowLaws.{complete-same, right-strides, right-spans}
 use Rattle.loc_window.proofs.SummingLaws.{summing-begins, summed-known, summed-stored}
 use Rattle.loc_runs.specs.Runs.{IsRun}
 use Rattle.loc_read.specs.Walk.{Readable, InArrays}
@@ -32,19 +36,21 @@ use Rattle.loc_runs.proofs.RunLaws.{looked-own, key-some, key-counted}
 
 -- ---- where the slot loop begins
 
--- in reading's arrays, with the rows not looked at yet
-pub summing-none : (k : Kind) (f m : ℕ) (bytes rows : Bytes) (nr : ℕ) (mark : List ℕ) (stamp : ℕ) (body span : List ℕ) → m ≤ 1024 → f + 1024 < 2 ^ 64 → Rising k rows nr
-    → length bytes ≡ 2048 → length body ≡ 1025 → length span ≡ 1025 → Summing k 1025 f m bytes rows nr mark stamp 0 (sumsOf 0 0 (nr + 1) 0) body span
-summing-none k f m bytes rows nr mark stamp body span few low rise eb e₁ e₂ =
-    summing-begins k 1025 f m bytes rows nr mark stamp (nr + 1) body span few (omega arith) low rise (past-rows k f bytes rows nr rise) (omega arith) e₁ e₂
+-- in reading's arrays, with the window's rows as they are planned
+pub summing-planned : (k : Kind) (f m : ℕ) (bytes rows : Bytes) (nr : ℕ) (mark : List ℕ) (stamp : ℕ) (body span : List ℕ) (window : PlannedWindow) → window ≡ planned (rowList k rows) f m
+    → window .m ≤ 1024 → window .base + 1024 < 2 ^ 64 → Rising k rows nr → length bytes ≡ 2048 → length body ≡ 1025 → length span ≡ 1025
+    → Summing k 1025 (window .base) (window .m) bytes rows (window .past) mark stamp 0 (sumsOf 0 0 (window .first) 0) body span
+summing-planned k f m bytes rows nr mark stamp body span window e few low rise eb e₁ e₂ =
+    subst⁻¹ (λ (v : PlannedWindow). v .m ≤ 1024 → v .base + 1024 < 2 ^ 64 → Summing k 1025 (v .base) (v .m) bytes rows (v .past) mark stamp 0 (sumsOf 0 0 (v .first) 0) body span) e
+    (λ g l. summing-begins k 1025 f m bytes rows _ mark stamp _ body span g (omega arith) l (planned-before k rows nr rise (f + 1024)) (planned-passed k rows nr rise f) (omega arith) e₁ e₂) few low
 
 -- in these arrays the loop has ended
-pub arrays-summing : (k : Kind) (f m : ℕ) (bytes rows : Bytes) (nr : ℕ) (mark : List ℕ) (stamp block : ℕ) (s : Sums) (body span : List ℕ) → Summing k 1025 f m bytes rows nr mark stamp block s body span → m ≤ 8 * block
+pub arrays-summing : (k : Kind) (f m : ℕ) (bytes rows : Bytes) (past : ℕ) (mark : List ℕ) (stamp block : ℕ) (s : Sums) (body span : List ℕ) → Summing k 1025 f m bytes rows past mark stamp block s body span → m ≤ 8 * block
     → InArrays k f m bytes rows mark stamp body span
-arrays-summing k f m bytes rows nr mark stamp block s body span w h =
+arrays-summing k f m bytes rows past mark stamp block s body span w h =
     record {
-      known = summed-known k 1025 f m bytes rows nr mark stamp block s body span w h;
-      stored = summed-stored k 1025 f m bytes rows nr mark stamp block s body span w h;
+      known = summed-known k 1025 f m bytes rows past mark stamp block s body span w h;
+      stored = summed-stored k 1025 f m bytes rows past mark stamp block s body span w h;
       bodyLong = w .bodyLong;
       spanLong = w .spanLong;
     }

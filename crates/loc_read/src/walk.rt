@@ -19,10 +19,12 @@ use loc_runs::runs::run_at;
 use loc_runs::runs::wanted_by;
 use loc_window::Step;
 use loc_window::checkpoint::window_end;
+use loc_window::plan::plan_window;
 use loc_window::window::copy_slots;
 use loc_window::window::slot_step;
 
 // The answers of all keys, each at its number's place, or 17 where a slot that is looked at lacks its row.
+// From window to window go the rows `passed`, which are those numbered up to the last window's `end`.
 pub fn finish_range_batch(
     kind: Kind,
     slots: &[u8],
@@ -43,34 +45,33 @@ pub fn finish_range_batch(
     let mut span = [0u64; 1025];
     let mut mark = [0u64; 128];
     let mut number = ACCEPTED;
+    let mut passed: usize = 0;
+    let mut end: u64 = 0;
     let mut i: usize = 0;
     'windows: while i < keys.len() {
         let stamp = i as u64 + 1;
         let run = run_at(kind, count, wanted, keys, i, stamp, &mut mark);
-        let m = run.m;
         let w = loc_window(wanted_by(wanted, keys, i));
-        let base = LOC_WINDOW * w;
+        let window = plan_window(kind, rows, row_count, passed, end, LOC_WINDOW * w, run.m);
         copy_slots(
             slots,
-            FILE_HEADER_LEN + 2 * base as usize,
-            2 * m,
+            FILE_HEADER_LEN + 2 * window.base as usize,
+            2 * window.m,
             &mut bytes,
         );
         let mut strides: u64 = 0;
         let mut spans: u64 = 0;
-        let mut row = row_count + 1;
+        let mut row = window.first;
         let mut block: usize = 0;
-        while 8 * block < m {
+        while 8 * block < window.m {
             let step = slot_step(
                 kind,
                 &bytes,
                 block,
-                m,
+                window,
                 &mark,
                 stamp,
                 rows,
-                row_count,
-                base,
                 strides,
                 spans,
                 row,
@@ -104,6 +105,8 @@ pub fn finish_range_batch(
             &span,
             out,
         );
+        passed = window.past;
+        end = window.base + LOC_WINDOW;
         i = run.end;
     }
     number

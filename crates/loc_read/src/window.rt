@@ -20,6 +20,7 @@ use loc_leaf::refusal::accepted;
 use loc_leaf::refusal::refused;
 use loc_window::Step;
 use loc_window::checkpoint::window_end;
+use loc_window::plan::plan_window;
 use loc_window::window::copy_slots;
 use loc_window::window::window_sums;
 
@@ -44,26 +45,14 @@ pub fn read_window(
     let mut body = [0u64; 1025];
     let mut span = [0u64; 1025];
     let w = loc_window(wanted[0]);
-    let base = LOC_WINDOW * w;
+    let window = plan_window(kind, rows, row_count, 0, 0, LOC_WINDOW * w, m);
     copy_slots(
         slots,
-        FILE_HEADER_LEN + 2 * base as usize,
-        2 * m,
+        FILE_HEADER_LEN + 2 * window.base as usize,
+        2 * window.m,
         &mut bytes,
     );
-    let step = window_sums(
-        kind,
-        &bytes,
-        m,
-        mark,
-        1,
-        rows,
-        row_count,
-        base,
-        row_count + 1,
-        &mut body,
-        &mut span,
-    );
+    let step = window_sums(kind, &bytes, window, mark, 1, rows, &mut body, &mut span);
     let Step::Next(_) = step else {
         return refused(ROW_MISSING);
     };

@@ -95,7 +95,7 @@ module _ (s r c : Bytes) (x n nr : ℕ) (rd : Readable Paired (areas s r c) n nr
       record {
         inside = omega arith;
         known = subst (λ (i : ℕ). complete Paired a 0 i ≡ true) z refl;
-        passed = λ h i l. absurd (not-suc-le-zero l);
+        passed = λ i l. absurd (not-suc-le-zero l);
         isBefore = λ h. sym (spans-none a 0);
         beforeLow = omega arith;
         isFound = subst (λ (i : ℕ). found ≡ crossingAfter a x 0 i) z e;
@@ -121,7 +121,7 @@ module _ (s r c : Bytes) (x n nr : ℕ) (rd : Readable Paired (areas s r c) n nr
         room = omega (arith, rd .room);
         low = omega (arith, rd .low);
         rise = rd .rise;
-        passed = λ g i l. omega (arith, v .passed g i l);
+        passed = λ i l. omega (arith, v .passed i l);
       }
 
       pub finding-found : found ≡ crossingAfter a x 0 (256 * q)
@@ -163,7 +163,7 @@ module _ (s r c : Bytes) (x n nr : ℕ) (rd : Readable Paired (areas s r c) n nr
               record {
                 inside = omega arith;
                 known = subst (λ (i : ℕ). complete Paired a 0 i ≡ true) z (both ∙ total .known);
-                passed = λ g i l. omega (arith, total .passed g i l);
+                passed = λ i l. omega (arith, total .passed i l);
                 isBefore = λ l. eb ∙ next-before a q before (u .spans) (v .isBefore h) (total .isSpans ∙ ap (spansAfter Paired a (256 * q)) (full l));
                 beforeLow = omega (arith, eb, next-low q before (u .spans) (v .beforeLow) (omega (arith, total .spansLow)));
                 isFound = subst (λ (i : ℕ). found′ ≡ crossingAfter a x 0 i) z ef;

@@ -14,6 +14,8 @@ use Rattle.loc_leaf.specs.declared.Value.{Value}
 use Rattle.loc_leaf.specs.declared.delta_loc.Lookup.{Lookup}
 use Rattle.loc_leaf.specs.declared.delta_loc.Lookup.the-variants.{Found, Missing}
 use Rattle.loc_leaf.specs.Bytes.{Bytes}
+use Rattle.loc_leaf.specs.Area.{fill}
+use Rattle.loc_leaf.specs.Kind.{rowWidth}
 use Rattle.loc_leaf.specs.Slot.{needsRow, inline}
 use Rattle.loc_leaf.specs.Rows.{rowList, rowValue, numberIn, valueIn}
 use Rattle.loc_leaf.proofs.RowLaws.{rising, rows-count}
@@ -26,7 +28,7 @@ use Rattle.loc_window.proofs.SumLaws.{lookup-is}
 use Rattle.loc_window.proofs.WindowLaws.{part-copied, complete-same, strides-same, spans-same}
 use Rattle.loc_total.specs.declared.Total.{Total}
 use Rattle.loc_total.specs.Slots.{SlotTotal}
-use Rattle.loc_total.specs.Total.{Totalled, lookupFrom, valueOr, lack, valueFrom, lackFrom, WithRows}
+use Rattle.loc_total.specs.Total.{Totalled, lookupFrom, valueOr, lack, valueFrom, lackFrom, WithRows, RowsReady}
 use Rattle.loc_total.proofs.SumLaws.{sum-next, sum-changed, bits-low}
 use Rattle.loc_total.proofs.SlotLaws.{totalOf}
 use Rattle.loc_total.proofs.PlaceLaws.{from-other, from-here, from-behind, from-past}
@@ -116,6 +118,10 @@ module _ (k : Kind) (f : ℕ) (bytes rows : Bytes) (m : ℕ) where
             (λ (e : q ≡ p). rw e l)
             (λ (s : q < p). omega (arith, rising 0 (rowList k rows) (r .ascend) q p s (within p h)))
             (eq-or-lt-of-le g)
+
+    -- what the walk asks, with the rows as they count
+    pub ready-counted : RowsReady k f bytes rows nr m → RowsReady k f bytes rows (fill (rowWidth k) rows) m
+    ready-counted w = record { few = w .few; long = w .long; rise = record { ascend = r .ascend; counted = refl } }
 
     -- ---- one row more, which is numbered id: it is record j's
 

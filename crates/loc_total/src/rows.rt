@@ -2,6 +2,8 @@
 // The rows of the last records are the last rows, so that few are looked at.
 ghost use mathlib.Core.Path.{_≡_};
 ghost use Prim.Native.Nat.{_+_, _<_};
+ghost use Rattle.loc_leaf.specs.Area.{fill};
+ghost use Rattle.loc_leaf.specs.Kind.{rowWidth};
 ghost use Rattle.loc_leaf.specs.Rows.{rowList, numberIn};
 ghost use Rattle.loc_total.specs.Total.{RowsReady, WithRows};
 use crate::Total;
@@ -17,14 +19,13 @@ fn with_row(
     bytes: &[u8],
     m: usize,
     rows: &[u8],
-    row_count: usize,
     base: u64,
     row: usize,
     id: u64,
     t: Total,
 ) -> Total
-    requires { ⌜ RowsReady kind base (now bytes) (now rows) «row_count» m × WithRows kind base (now bytes) (now rows) m (row + 1) t ⌝ }
-    requires { ⌜ (row < «row_count») × (id ≡ numberIn (rowList kind (now rows)) row) × (base < id) ⌝ }
+    requires { ⌜ RowsReady kind base (now bytes) (now rows) (fill (rowWidth kind) (now rows)) m × WithRows kind base (now bytes) (now rows) m (row + 1) t ⌝ }
+    requires { ⌜ (row < fill (rowWidth kind) (now rows)) × (id ≡ numberIn (rowList kind (now rows)) row) × (base < id) ⌝ }
     ensures { λ r. ⌜ WithRows kind base (now (bytes .entry)) (now (rows .entry)) m row r ⌝ }
 {
     let j = id - base - 1;
@@ -35,7 +36,7 @@ fn with_row(
     let low = bytes[2 * i];
     let high = bytes[2 * i + 1];
     if needs_row(kind, low, high) {
-        let v = row_value_at(kind, rows, row_count, row);
+        let v = row_value_at(kind, rows, row);
         let s = inline_value(kind, low, high);
         let strides = t.strides - s.strides as u64 + v.strides as u64;
         let spans = t.spans - s.spans as u64 + v.spans as u64;
@@ -66,11 +67,11 @@ pub fn with_rows(
     let mut row = row_count;
     while 0 < row {
         row -= 1;
-        let id = row_number(kind, rows, row_count, row);
+        let id = row_number(kind, rows, row);
         if id <= base {
             return t;
         }
-        t = with_row(kind, bytes, m, rows, row_count, base, row, id, t);
+        t = with_row(kind, bytes, m, rows, base, row, id, t);
     }
     t
 }

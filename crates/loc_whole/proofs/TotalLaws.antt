@@ -18,6 +18,7 @@ use Rattle.loc_window.specs.declared.Sums.{Sums}
 use Rattle.loc_window.specs.declared.Step.{Step}
 use Rattle.loc_window.specs.declared.Step.the-variants.{Next, Lack}
 use Rattle.loc_window.specs.Window.{windowAreas, Passed, After, sumsOf, Right, SumsStored, Summing, WindowSummed, Copied}
+use Rattle.loc_window.proofs.PlannedLaws.{all-before}
 use Rattle.loc_window.proofs.WindowLaws.{part-copied, complete-same, strides-same, spans-same, right-spans}
 use Rattle.loc_window.proofs.SummingLaws.{summing-begins}
 use Rattle.loc_whole.specs.Totals.{Walkable, Totals, Running, Totalled, Lent}
@@ -101,7 +102,7 @@ module _ (slots rows : Bytes) (nr f m row : ℕ) (g : Walkable slots rows nr f m
   pub totals-ask : (body span : List ℕ) → Lent mark body span → (length mark ≡ 128) × Summing Paired (length body) f m (part slots f d) rows nr mark stamp 0 (sumsOf 0 0 row 0) body span
   totals-ask body span l = (
     ap length (l .marks) ∙ length-replicate {A = ℕ} 128 0,
-    summing-begins Paired (length body) f m (part slots f d) rows nr mark stamp row body span (omega (arith, g .few)) (omega (arith, g .few, l .bodyLong)) (omega (arith, g .low)) (g .rise) (g .passed)
+    summing-begins Paired (length body) f m (part slots f d) rows nr mark stamp row body span (omega (arith, g .few)) (omega (arith, g .few, l .bodyLong)) (omega (arith, g .low)) (all-before Paired rows nr (g .rise) (f + 1024)) (g .passed)
         (omega (arith, part-long)) refl (l .spanLong ∙ sym (l .bodyLong)),
   )
 

@@ -24,9 +24,10 @@ use Rattle.loc_calls.specs.Reading.{lookupAt, has}
 use Rattle.loc_window.specs.declared.Sums.{Sums}
 use Rattle.loc_window.specs.declared.Step.{Step}
 use Rattle.loc_window.specs.declared.Step.the-variants.{Next, Lack}
-use Rattle.loc_window.specs.Window.{windowAreas, complete, Passed, Rising, After, sumsOf, plusValue, FoundRow, slotBytes, BlockReady, BlockStepped, Swapping, Unmarked, BlocksAfter, PlainBlocks, BlocksPassed}
+use Rattle.loc_window.specs.Window.{windowAreas, complete, Below, RowsBefore, After, sumsOf, plusValue, FoundRow, slotBytes, BlockReady, BlockStepped, Swapping, Unmarked, BlocksAfter, PlainBlocks, BlocksPassed}
 use Rattle.loc_window.proofs.BlockLaws.{block-strides, block-spans, block-mask}
-use Rattle.loc_window.proofs.SumLaws.{all-more, passed-more, after-at, step-inline, step-row, lacks-row}
+use Rattle.loc_window.proofs.RowsLaws.{before-less}
+use Rattle.loc_window.proofs.SumLaws.{all-more, after-at, step-inline, step-row, lacks-row}
 
 -- a sum in two parts
 pub sum-split : (g : ℕ → ℕ) (j n m : ℕ) → sumFrom g j (n + m) ≡ sumFrom g j n + sumFrom g (j + n) m
@@ -296,8 +297,9 @@ module _ (k : Kind) (f : ℕ) (s rows : Bytes) where
     pub swap-needs : needsRow k (slotBytes s (j + z)) ≡ true
     swap-needs = first .2
 
-    pub swap-passed : (id : ℕ) → f + (j + z) ≤ id → Passed (rowList k rows) row id
-    swap-passed id l = passed-more k f s rows row (f + (j + z)) id l (at .passed)
+    -- what the search for its row asks
+    pub swap-asks : (past id : ℕ) → id ≡ f + (j + z) + 1 → j + n ≤ 1024 → RowsBefore k rows (f + 1024) past → RowsBefore k rows id past × Below (rowList k rows) row id
+    swap-asks past id e h rise = (before-less k rows (f + 1024) id past (omega (arith, first .0)) rise, λ i l. omega (arith, at .passed i l))
 
     -- the sums hold its bytes, and are small
     pub swap-holds : (inline k (slotBytes s (j + z)) .strides ≤ x) × (inline k (slotBytes s (j + z)) .spans ≤ y)
@@ -306,14 +308,14 @@ module _ (k : Kind) (f : ℕ) (s rows : Bytes) where
     pub swap-small : j ≤ 1024 → (x < 2 ^ 44) × (y < 2 ^ 44)
     swap-small l = (omega (arith, w .isStrides, w .stridesFew, w .after .stridesLow), omega (arith, w .isSpans, w .spansFew, w .after .spansLow))
 
-    module _ (count id r : ℕ) (rise : Rising k rows count) (ei : id ≡ f + suc (j + z)) (found : FoundRow k rows count id r) where
-      pub swap-lack : (m : ℕ) → r ≡ count → j + n ≤ m → complete k (windowAreas f s rows) f m ≡ false
+    module _ (past id r : ℕ) (ei : id ≡ f + suc (j + z)) (found : FoundRow k rows past id r) where
+      pub swap-lack : (m : ℕ) → r ≡ past → j + n ≤ m → complete k (windowAreas f s rows) f m ≡ false
       swap-lack m e l =
-          all-more (λ i. has (lookupAt k (windowAreas f s rows) i)) f (j + z + 1) m (lacks-row k f s rows (j + z) id (rise .ascend) (first .2) ei (found .missing e))
+          all-more (λ i. has (lookupAt k (windowAreas f s rows) i)) f (j + z + 1) m (lacks-row k f s rows (j + z) id (first .2) ei (found .missing e))
           (omega (arith, first .0))
 
       -- its row's values in place of its bytes
-      pub swap-next : (v : Value) (x′ y′ left′ j′ n′ : ℕ) → r < count → v ≡ rowValue k (getD (rowList k rows) r []) → v .strides < 2 ^ 32 → v .spans < 2 ^ 32
+      pub swap-next : (v : Value) (x′ y′ left′ j′ n′ : ℕ) → r < past → v ≡ rowValue k (getD (rowList k rows) r []) → v .strides < 2 ^ 32 → v .spans < 2 ^ 32
           → x′ + inline k (slotBytes s (j + z)) .strides ≡ x + v .strides → y′ + inline k (slotBytes s (j + z)) .spans ≡ y + v .spans
           → left′ ≡ left / 2 ^ (z + 1) → j′ ≡ j + z + 1 → n′ ≡ n - z - 1 → Swapping k f s rows j′ n′ x′ y′ (r + 1) left′
       swap-next v x′ y′ left′ j′ n′ l ev hs hp ex ey el ej en =
@@ -321,7 +323,7 @@ module _ (k : Kind) (f : ℕ) (s rows : Bytes) where
           (record {
             strides = w .strides + inlineStrides k s j z + v .strides;
             spans = w .spans + inlineSpans k s j z + v .spans;
-            after = step-row k f s rows (j + z) id (rise .ascend) (first .2) ei r _ v at (found .there l) ev hs hp;
+            after = step-row k f s rows (j + z) id (first .2) ei r _ v at (found .there l) ev hs hp;
             isStrides = omega (arith, w .isStrides, strides-parts);
             isSpans = omega (arith, w .isSpans, spans-parts);
             stridesFew = omega (arith, w .stridesFew, strides-parts);
@@ -331,8 +333,8 @@ module _ (k : Kind) (f : ℕ) (s rows : Bytes) where
 
 -- ---- by kind
 
-pub kind-ready : (k k′ : Kind) (f : ℕ) (bytes rows : Bytes) (count full : ℕ) (s : Sums) → k ≡ k′ → BlockReady k f bytes rows count full s → BlockReady k′ f bytes rows count full s
-kind-ready k k′ f bytes rows count full s e w = subst (λ (i : Kind). BlockReady i f bytes rows count full s) e w
+pub kind-ready : (k k′ : Kind) (f : ℕ) (bytes rows : Bytes) (past full : ℕ) (s : Sums) → k ≡ k′ → BlockReady k f bytes rows past full s → BlockReady k′ f bytes rows past full s
+kind-ready k k′ f bytes rows past full s e w = subst (λ (i : Kind). BlockReady i f bytes rows past full s) e w
 
 pub kind-passed : (k k′ : Kind) (f : ℕ) (bytes rows : Bytes) (mark : List ℕ) (stamp block full : ℕ) (r : Step) → k ≡ k′ → BlocksPassed k′ f bytes rows mark stamp block full r
     → BlocksPassed k f bytes rows mark stamp block full r

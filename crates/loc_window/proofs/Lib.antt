@@ -1,6 +1,6 @@
 pub mod BlockLaws
-pub mod PassedLaws
 pub mod RowsLaws
+pub mod PlannedLaws
 pub mod SumLaws
 pub mod RecordLaws
 pub mod StepLaws
@@ -8,3 +8,4 @@ pub mod BlocksLaws
 pub mod CheckpointLaws
 pub mod WindowLaws
 pub mod SummingLaws
+pub mod Examples

@@ -16,30 +16,32 @@ use Rattle.loc_leaf.specs.Rows.{rowList, rowValue}
 use Rattle.loc_calls.specs.Reading.{lookupAt, has}
 use Rattle.loc_window.specs.declared.Sums.{Sums}
 use Rattle.loc_window.specs.declared.Step.the-variants.{Next}
-use Rattle.loc_window.specs.Window.{windowAreas, complete, Passed, Rising, After, sumsOf, slotBytes, FoundRow, Written, Recorded}
-use Rattle.loc_window.proofs.SumLaws.{all-more, passed-more, step-inline, step-row, lacks-row, written-next, written-whole}
+use Rattle.loc_window.specs.Window.{windowAreas, complete, Below, RowsBefore, After, sumsOf, slotBytes, FoundRow, Written, Recorded}
+use Rattle.loc_window.proofs.RowsLaws.{before-less}
+use Rattle.loc_window.proofs.SumLaws.{all-more, step-inline, step-row, lacks-row, written-next, written-whole}
 
 module _ (k : Kind) (f : ℕ) (bytes rows : Bytes) where
-  -- the rows passed are numbered up to the next record's number
-  pub passed-next-record : (n id : ℕ) (s : Sums) → id ≡ f + n + 1 → After k f bytes rows n s → Passed (rowList k rows) (s .row) id
-  passed-next-record n id s e w = passed-more k f bytes rows (s .row) (f + n) id (omega arith) (w .passed)
+  -- what the search for the next record's row asks
+  pub row-asks : (past n id : ℕ) (s : Sums) → id ≡ f + n + 1 → n < 1024 → RowsBefore k rows (f + 1024) past → After k f bytes rows n s
+      → RowsBefore k rows id past × Below (rowList k rows) (s .row) id
+  row-asks past n id s e h rise w = (before-less k rows (f + 1024) id past (omega arith) rise, λ i l. omega (arith, w .passed i l))
 
   -- by its slot
   inline-more : (n x y row block : ℕ) (b : Bool) (v : Value) → b ≡ needsRow k (slotBytes bytes n) → b ≡ false → v ≡ inline k (slotBytes bytes n) → v .strides < 2 ^ 32 → v .spans < 2 ^ 32
       → After k f bytes rows n (sumsOf x y row block) → After k f bytes rows (n + 1) (sumsOf (x + v .strides) (y + v .spans) row block)
   inline-more n x y row block b v e plain ev hs hp w = step-inline k f bytes rows n (sumsOf x y row block) (sumsOf (x + v .strides) (y + v .spans) row block) v (sym e ∙ plain) w ev refl hs hp
 
-  module _ (count n id r : ℕ) (b : Bool) (rise : Rising k rows count) (e : b ≡ needsRow k (slotBytes bytes n)) (taken : b ≡ true) (ei : id ≡ f + n + 1) (found : FoundRow k rows count id r) where
+  module _ (past n id r : ℕ) (b : Bool) (e : b ≡ needsRow k (slotBytes bytes n)) (taken : b ≡ true) (ei : id ≡ f + n + 1) (found : FoundRow k rows past id r) where
     -- by its row
-    pub row-more : (x y row block : ℕ) (v : Value) → (r ≡ count → ⊥) → v ≡ rowValue k (getD (rowList k rows) r []) → v .strides < 2 ^ 32 → v .spans < 2 ^ 32
+    pub row-more : (x y row block : ℕ) (v : Value) → (r ≡ past → ⊥) → v ≡ rowValue k (getD (rowList k rows) r []) → v .strides < 2 ^ 32 → v .spans < 2 ^ 32
         → After k f bytes rows n (sumsOf x y row block) → After k f bytes rows (n + 1) (sumsOf (x + v .strides) (y + v .spans) (r + 1) block)
     row-more x y row block v other ev hs hp w =
-        step-row k f bytes rows n id (rise .ascend) (sym e ∙ taken) (omega arith) r (sumsOf x y row block) v w (found .there (omega (arith, found .inside, other))) ev hs hp
+        step-row k f bytes rows n id (sym e ∙ taken) (omega arith) r (sumsOf x y row block) v w (found .there (omega (arith, found .inside, other))) ev hs hp
 
     -- without its row, before record m
-    pub row-lacking : (m : ℕ) → n < m → r ≡ count → complete k (windowAreas f bytes rows) f m ≡ false
+    pub row-lacking : (m : ℕ) → n < m → r ≡ past → complete k (windowAreas f bytes rows) f m ≡ false
     row-lacking m h same =
-        all-more (λ i. has (lookupAt k (windowAreas f bytes rows) i)) f (n + 1) m (lacks-row k f bytes rows n id (rise .ascend) (sym e ∙ taken) (omega arith) (found .missing same)) (omega arith)
+        all-more (λ i. has (lookupAt k (windowAreas f bytes rows) i)) f (n + 1) m (lacks-row k f bytes rows n id (sym e ∙ taken) (omega arith) (found .missing same)) (omega arith)
 
   -- the same sums, as the loop holds them
   pub sums-held : (n x y row x′ y′ row′ block : ℕ) → x ≡ x′ → y ≡ y′ → row ≡ row′ → After k f bytes rows n (sumsOf x′ y′ row′ block) → After k f bytes rows n (sumsOf x y row block)

@@ -1,27 +1,26 @@
 -- Rows where they stand, by their place: number and value as they are read, and the row that is numbered id.
--- Rows ascend throughout, so a row with that number is the one that a search by halves finds.
+-- Rows ascend throughout, so that no row after a larger number has it.
 use Prim.Native.Nat.{ℕ, suc, _+_, _-_, _*_, _^_, _≤_, _<_}
 use mathlib.Core.Path.{_≡_, refl, sym, ap, _∙_}
 use mathlib.Core.Logic.{⊎-elim}
 use mathlib.Core.List.{List, []}
 use native.Mathlib.Nat.{eq-or-lt-of-le}
 use native.Mathlib.Numerals.{add-one}
+use native.Mathlib.Decide.{decLe}
 use native.Mathlib.Omega.{arith}
 use lib.ListN.{length, take, drop, getD}
 use lib.Seq.{drop-drop}
-use borrow.Author.Tests.{eq-eqb, ne-eqb}
 use Rattle.loc_leaf.specs.declared.Kind.{Kind}
 use Rattle.loc_leaf.specs.declared.Kind.the-variants.{Paired, Single}
-use Rattle.loc_leaf.specs.declared.delta_loc.Lookup.the-variants.{Missing}
 use Rattle.loc_leaf.specs.Bytes.{Bytes, byte, number, bytes, numberAt}
+use Rattle.loc_leaf.specs.Area.{fill}
 use Rattle.loc_leaf.specs.Kind.{rowWidth}
-use Rattle.loc_leaf.specs.Rows.{rowList, rowValue, numberIn, rowsUpToByHalves, lookupBefore, lookupByHalves}
+use Rattle.loc_leaf.specs.Rows.{rowList, rowValue, numberIn}
 use Rattle.loc_leaf.proofs.NumberLaws.{spelled}
 use Rattle.loc_leaf.proofs.Stored.{number-bytes}
 use Rattle.loc_leaf.proofs.AreaLaws.{pieces-get}
-use Rattle.loc_leaf.proofs.RowLaws.{rising, rows-are, rows-count, rows-room, row-room, piece-value}
-use Rattle.loc_window.specs.Window.{Rising, IsRow, FoundRow}
-use Rattle.loc_window.proofs.PassedLaws.{moved-there, number-read}
+use Rattle.loc_leaf.proofs.RowLaws.{rising, rows-are, rows-count, rows-room, row-room, number-there, piece-value, lookup-none, lookup-at}
+use Rattle.loc_window.specs.Window.{Passed, Below, RowsBefore, FoundRow}
 
 -- ---- fields as they are read
 
@@ -38,18 +37,20 @@ word-read : (xs : Bytes) (at r : ℕ) → r < 2 ^ 64 → bytes 8 r ≡ take 8 (d
 unfolding numberAt
 word-read xs at r h e = sym (number-bytes 8 r h) ∙ ap number e
 
-module _ (k : Kind) (xs : Bytes) (n : ℕ) (r : Rising k xs n) (i : ℕ) (h : i < n) where
+module _ (k : Kind) (xs : Bytes) (i : ℕ) (h : i < fill (rowWidth k) xs) where
   -- a row ends within the area
   pub row-ends : (w : ℕ) → w ≡ rowWidth k → w * i + w ≤ length xs - 16
-  row-ends w ew = row-room w n i (length xs - 16) (rows-room k xs w n ew (r .counted)) h
+  row-ends w ew = row-room w (fill (rowWidth k) xs) i (length xs - 16) (rows-room k xs w (fill (rowWidth k) xs) ew refl) h
 
   pub word-number : (w v : ℕ) → w ≡ rowWidth k → 12 ≤ w → v < 2 ^ 64 → bytes 8 v ≡ take 8 (drop (16 + w * i) xs) → v ≡ numberIn (rowList k xs) i
-  word-number w v ew wide f e = word-read xs (16 + w * i) v f e ∙ number-read k xs w n ew wide (r .counted) i h
+  word-number w v ew wide f e =
+      word-read xs (16 + w * i) v f e
+      ∙ sym (ap (λ (l : List Bytes). numberIn l i) (rows-are k xs w (fill (rowWidth k) xs) ew refl) ∙ number-there w wide xs (fill (rowWidth k) xs) i h)
 
   row-is : getD (rowList k xs) i [] ≡ take (rowWidth k) (drop (16 + rowWidth k * i) xs)
   row-is =
-      ap (λ (l : List Bytes). getD l i []) (rows-are k xs (rowWidth k) n refl (r .counted))
-      ∙ pieces-get (rowWidth k) n (drop 16 xs) i h ∙ ap (take (rowWidth k)) (drop-drop (rowWidth k * i) 16 xs)
+      ap (λ (l : List Bytes). getD l i []) (rows-are k xs (rowWidth k) (fill (rowWidth k) xs) refl refl)
+      ∙ pieces-get (rowWidth k) (fill (rowWidth k) xs) (drop 16 xs) i h ∙ ap (take (rowWidth k)) (drop-drop (rowWidth k * i) 16 xs)
 
   value-is : rowValue k (getD (rowList k xs) i []) ≡ rowValue k (drop (16 + rowWidth k * i) xs)
   value-is = ap (rowValue k) row-is ∙ piece-value k (drop (16 + rowWidth k * i) xs)
@@ -58,53 +59,65 @@ field : (a b c : ℕ) (xs : Bytes) → a + b ≡ c → numberAt 4 b (drop a xs) 
 unfolding numberAt
 field a b c xs e = ap (λ (l : Bytes). number (take 4 l)) (drop-drop b a xs ∙ ap (λ (j : ℕ). drop j xs) e)
 
-module _ (k : Kind) (xs : Bytes) (n : ℕ) (r : Rising k xs n) (i : ℕ) (h : i < n) (x : ℕ) where
+module _ (k : Kind) (xs : Bytes) (i : ℕ) (h : i < fill (rowWidth k) xs) (x : ℕ) where
   pub value-read-paired : (y : ℕ) → k ≡ Paired → x ≡ numberAt 4 (24 + 16 * i) xs → y ≡ numberAt 4 (28 + 16 * i) xs
       → record { strides = x; spans = y } ≡ rowValue k (getD (rowList k xs) i [])
   unfolding rowValue
   value-read-paired y e ex ey =
-      sym (value-is k xs n r i h ∙ rw (e, field (16 + 16 * i) 8 (24 + 16 * i) xs (omega arith), field (16 + 16 * i) 12 (28 + 16 * i) xs (omega arith), ex, ey) refl)
+      sym (value-is k xs i h ∙ rw (e, field (16 + 16 * i) 8 (24 + 16 * i) xs (omega arith), field (16 + 16 * i) 12 (28 + 16 * i) xs (omega arith), ex, ey) refl)
 
   pub value-read-single : k ≡ Single → x ≡ numberAt 4 (24 + 12 * i) xs → record { strides = x; spans = 0 } ≡ rowValue k (getD (rowList k xs) i [])
   unfolding rowValue
-  value-read-single e ex = sym (value-is k xs n r i h ∙ rw (e, field (16 + 12 * i) 8 (24 + 12 * i) xs (omega arith), ex) refl)
+  value-read-single e ex = sym (value-is k xs i h ∙ rw (e, field (16 + 12 * i) 8 (24 + 12 * i) xs (omega arith), ex) refl)
 
--- ---- the row that is numbered id
+-- there are no more rows than bytes behind the first 16
+pub few-rows : (k : Kind) (xs : Bytes) → fill (rowWidth k) xs ≤ length xs - 16
+few-rows Paired xs = omega (arith, rows-room Paired xs 16 (fill 16 xs) refl refl)
+few-rows Single xs = omega (arith, rows-room Single xs 12 (fill 12 xs) refl refl)
 
-module _ (k : Kind) (xs : Bytes) (n : ℕ) (r : Rising k xs n) (id : ℕ) where
-  module _ (i : ℕ) (h : i < n) (e : numberIn (rowList k xs) i ≡ id) where
-    -- the rows up to it are numbered up to id
-    up-to-row : (j : ℕ) → j < i + 1 → numberIn (rowList k xs) j ≤ id
-    up-to-row j g =
-        ⊎-elim
-        (λ (w : j ≡ i). rw w (omega arith))
-        (λ (s : j < i). omega (arith, rising 0 (rowList k xs) (r .ascend) j i s (omega (arith, rows-count k xs, r .counted))))
-        (eq-or-lt-of-le (omega arith))
+-- ---- rows that ascend: what stands before a place, and the row that is numbered id
 
-    -- and a search counts these
-    row-counted : suc i ≡ rowsUpToByHalves id (rowList k xs)
-    row-counted =
-        moved-there (rowList k xs) (r .ascend) id (suc i) (omega (arith, rows-count k xs, r .counted)) (λ j g. up-to-row j (omega arith))
-        (λ g. omega (arith, rising 0 (rowList k xs) (r .ascend) i (suc i) (omega arith) g))
+-- up to a lesser number
+pub before-less : (k : Kind) (rows : Bytes) (top id past : ℕ) → id ≤ top → RowsBefore k rows top past → RowsBefore k rows id past
+before-less k rows top id past h r = record { ascend = r .ascend; inside = r .inside; above = λ i g l. omega (arith, r .above i g l) }
 
-    is-row : IsRow k xs id i
-    unfolding lookupByHalves lookupBefore
-    is-row = record { isFound = rw (← row-counted, eq-eqb (numberIn (rowList k xs) i) id e) refl; passed = λ _. up-to-row }
+module _ (k : Kind) (xs : Bytes) (past id : ℕ) (r : RowsBefore k xs id past) where
+  -- the row at a place before `past` is numbered id
+  pub found-row : (i v : ℕ) → i < past → v ≡ numberIn (rowList k xs) i → v ≡ id → FoundRow k xs past id i
+  found-row i v h ev e =
+      record {
+        inside = omega arith;
+        there = λ _. record { isFound = lookup-at k (rowList k xs) id i (r .ascend) there (sym ev ∙ e); passed = passed };
+        missing = λ q. absurd (omega arith);
+      }
+    where
+      there : i < length (rowList k xs)
+      there = omega (arith, rows-count k xs, r .inside)
 
-  pub found-row : (i v : ℕ) → i < n → v ≡ numberIn (rowList k xs) i → v ≡ id → FoundRow k xs n id i
-  found-row i v h ev e = record { inside = omega arith; there = λ _. is-row i h (sym ev ∙ e); missing = λ q. absurd (omega arith) }
+      passed : Passed (rowList k xs) (i + 1) id
+      passed j g = ⊎-elim (λ (w : j ≡ i). rw w (omega arith)) (λ (s : j < i). omega (arith, rising 0 (rowList k xs) (r .ascend) j i s there)) (eq-or-lt-of-le (omega arith))
 
-  -- no row is
-  none-found : lookupByHalves k id (rowList k xs) ≡ Missing → FoundRow k xs n id n
-  none-found m = record { inside = omega arith; there = λ g. absurd (omega arith); missing = λ _. m }
+  -- the rows before a place are numbered below id, and those from there on above it
+  none-there : (i : ℕ) → Below (rowList k xs) i id → ((j : ℕ) → i ≤ j → j < length (rowList k xs) → id < numberIn (rowList k xs) j) → FoundRow k xs past id past
+  none-there i below above = record { inside = omega arith; there = λ g. absurd (omega arith); missing = λ _. lookup-none k (rowList k xs) id differs }
+    where
+      differs : (j : ℕ) → j < length (rowList k xs) → numberIn (rowList k xs) j ≡ id → ⊥
+      differs j h e = go (decLe i j)
+        where
+          go : Dec (i ≤ j) → ⊥
+          go (yes g) = omega (arith, above j g h)
+          go (no g) = omega (arith, below j (omega arith))
 
-  module _ (p : ℕ) (e : p ≡ rowsUpToByHalves id (rowList k xs)) where
-    pub none-before : p ≡ 0 → FoundRow k xs n id n
-    unfolding lookupByHalves lookupBefore
-    none-before z = none-found (rw (sym e ∙ z) refl)
+  module _ (i : ℕ) (below : Below (rowList k xs) i id) where
+    -- a row that is not numbered id, nor above it, is passed
+    pub below-more : (v : ℕ) → v ≡ numberIn (rowList k xs) i → (v ≡ id → ⊥) → v ≤ id → Below (rowList k xs) (i + 1) id
+    below-more v ev other up j g = ⊎-elim (λ (w : j ≡ i). rw w (omega arith)) (λ (s : j < i). below j s) (eq-or-lt-of-le (omega arith))
 
-    pub other-before : (v : ℕ) → (p ≡ 0 → ⊥) → v ≡ numberIn (rowList k xs) (p - 1) → (v ≡ id → ⊥) → FoundRow k xs n id n
-    unfolding lookupByHalves lookupBefore
-    other-before v z ev d =
-        let m : rowsUpToByHalves id (rowList k xs) ≡ suc (p - 1) = omega arith in
-        none-found (rw (m, ne-eqb (numberIn (rowList k xs) (p - 1)) id (λ q. d (ev ∙ q))) refl)
+    pub none-above : (v : ℕ) → v ≡ numberIn (rowList k xs) i → id < v → FoundRow k xs past id past
+    none-above v ev l = none-there i below above
+      where
+        above : (j : ℕ) → i ≤ j → j < length (rowList k xs) → id < numberIn (rowList k xs) j
+        above j g h = ⊎-elim (λ (w : i ≡ j). rw (← w) (omega arith)) (λ (s : i < j). omega (arith, rising 0 (rowList k xs) (r .ascend) i j s h)) (eq-or-lt-of-le g)
+
+    pub none-past : past ≤ i → FoundRow k xs past id past
+    none-past l = none-there i below (λ j g h. r .above j (omega arith) h)

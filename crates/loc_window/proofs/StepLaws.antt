@@ -21,13 +21,13 @@ use Rattle.loc_window.proofs.SumLaws.{all-more, after-at, right-same}
 
 module _ (k j : Kind) (e : k ≡ j) (f : ℕ) (bytes rows : Bytes) where
   -- what is asked of a kind is asked of an arm's
-  pub ready-of : (count from n : ℕ) (s : Sums) (body span : List ℕ) → Ready k f bytes rows count from n s body span → Ready j f bytes rows count from n s body span
-  ready-of count from n s body span r = subst (λ (i : Kind). Ready i f bytes rows count from n s body span) e r
+  pub ready-of : (past from n : ℕ) (s : Sums) (body span : List ℕ) → Ready k f bytes rows past from n s body span → Ready j f bytes rows past from n s body span
+  ready-of past from n s body span r = subst (λ (i : Kind). Ready i f bytes rows past from n s body span) e r
 
 module _ (k : Kind) (f : ℕ) (bytes rows : Bytes) where
   -- fewer records ask no more
-  pub ready-part : (count from n m : ℕ) (s : Sums) (body span : List ℕ) → from ≤ n → n ≤ m → Ready k f bytes rows count from m s body span → Ready k f bytes rows count from n s body span
-  ready-part count from n m s body span h g r =
+  pub ready-part : (past from n m : ℕ) (s : Sums) (body span : List ℕ) → from ≤ n → n ≤ m → Ready k f bytes rows past from m s body span → Ready k f bytes rows past from n s body span
+  ready-part past from n m s body span h g r =
       record {
         order = h;
         few = omega (arith, r .few);
@@ -40,9 +40,9 @@ module _ (k : Kind) (f : ℕ) (bytes rows : Bytes) where
       }
 
   -- the same sums, counted as other blocks
-  pub ready-at : (count from n block : ℕ) (s : Sums) (body span : List ℕ) → Ready k f bytes rows count from n s body span
-      → Ready k f bytes rows count from n (sumsOf (s .strides) (s .spans) (s .row) block) body span
-  ready-at count from n block s body span r =
+  pub ready-at : (past from n block : ℕ) (s : Sums) (body span : List ℕ) → Ready k f bytes rows past from n s body span
+      → Ready k f bytes rows past from n (sumsOf (s .strides) (s .spans) (s .row) block) body span
+  ready-at past from n block s body span r =
       record {
         order = r .order;
         few = r .few;
@@ -55,9 +55,9 @@ module _ (k : Kind) (f : ℕ) (bytes rows : Bytes) where
       }
 
   -- later sums ask no more
-  pub ready-later : (count from n from′ : ℕ) (s t : Sums) (body span : List ℕ) → from′ ≤ n → After k f bytes rows from′ t → Ready k f bytes rows count from n s body span
-      → Ready k f bytes rows count from′ n t body span
-  ready-later count from n from′ s t body span h w r =
+  pub ready-later : (past from n from′ : ℕ) (s t : Sums) (body span : List ℕ) → from′ ≤ n → After k f bytes rows from′ t → Ready k f bytes rows past from n s body span
+      → Ready k f bytes rows past from′ n t body span
+  ready-later past from n from′ s t body span h w r =
       record {
         order = h;
         few = r .few;
@@ -70,9 +70,9 @@ module _ (k : Kind) (f : ℕ) (bytes rows : Bytes) where
       }
 
   -- the whole blocks of m records
-  pub block-ready : (count m block : ℕ) (s : Sums) (body span : List ℕ) → s .block ≡ block → 8 * block < m → Ready k f bytes rows count (8 * block) m s body span
-      → BlockReady k f bytes rows count (m / 8) s
-  block-ready count m block s body span e h r =
+  pub block-ready : (past m block : ℕ) (s : Sums) (body span : List ℕ) → s .block ≡ block → 8 * block < m → Ready k f bytes rows past (8 * block) m s body span
+      → BlockReady k f bytes rows past (m / 8) s
+  block-ready past m block s body span e h r =
       record {
         order = omega arith;
         few = omega (arith, r .few);

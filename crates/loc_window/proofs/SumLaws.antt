@@ -16,8 +16,7 @@ use Rattle.loc_leaf.specs.declared.Value.{Value}
 use Rattle.loc_leaf.specs.declared.delta_loc.Lookup.the-variants.{Found, Missing}
 use Rattle.loc_leaf.specs.Bytes.{Bytes, byte}
 use Rattle.loc_leaf.specs.Slot.{needsRow, inline, slotAt}
-use Rattle.loc_leaf.specs.Rows.{rowList, rowValue, lookup, slotValue, lookupByHalves, ascending, valueIn}
-use Rattle.loc_leaf.proofs.RowLaws.{lookup-by-halves}
+use Rattle.loc_leaf.specs.Rows.{rowList, rowValue, lookup, slotValue, valueIn}
 use Rattle.loc_calls.specs.Reading.{sumAfter, allAfter, lookupAt, has, valueAt, stridesAfter, spansAfter}
 use Rattle.loc_window.specs.declared.Sums.{Sums}
 use Rattle.loc_window.specs.Window.{windowAreas, complete, Passed, After, sumsOf, plusValue, IsRow, slotBytes, Right, Written}
@@ -68,17 +67,14 @@ module _ (k : Kind) (f : ℕ) (bytes rows : Bytes) where
   unfolding slotValue
   lookup-inline j e = lookup-is j ∙ ap (λ (b : Bool). cond b (lookup k (f + suc j) (rowList k rows)) (Found (inline k (slotBytes bytes j)))) e
 
-  lookup-row : (j : ℕ) → ascending 0 (rowList k rows) ≡ true → needsRow k (slotBytes bytes j) ≡ true
-      → lookupAt k (windowAreas f bytes rows) (f + suc j) ≡ lookupByHalves k (f + suc j) (rowList k rows)
+  lookup-row : (j : ℕ) → needsRow k (slotBytes bytes j) ≡ true → lookupAt k (windowAreas f bytes rows) (f + suc j) ≡ lookup k (f + suc j) (rowList k rows)
   unfolding slotValue
-  lookup-row j a e =
-      lookup-is j ∙ ap (λ (b : Bool). cond b (lookup k (f + suc j) (rowList k rows)) (Found (inline k (slotBytes bytes j)))) e
-      ∙ sym (lookup-by-halves k (rowList k rows) a (f + suc j))
+  lookup-row j e = lookup-is j ∙ ap (λ (b : Bool). cond b (lookup k (f + suc j) (rowList k rows)) (Found (inline k (slotBytes bytes j)))) e
 
   -- ---- one record more
 
   pub passed-more : (p id id′ : ℕ) → id ≤ id′ → Passed (rowList k rows) p id → Passed (rowList k rows) p id′
-  passed-more p id id′ h w g i l = omega (arith, w g i l)
+  passed-more p id id′ h w i l = omega (arith, w i l)
 
   after-next : (n : ℕ) (s : Sums) (v : Value) (row : ℕ) → After k f bytes rows n s → lookupAt k (windowAreas f bytes rows) (f + suc n) ≡ Found v
       → v .strides < 2 ^ 32 → v .spans < 2 ^ 32 → Passed (rowList k rows) row (f + (n + 1)) → After k f bytes rows (n + 1) (plusValue s v row)
@@ -122,9 +118,9 @@ module _ (k : Kind) (f : ℕ) (bytes rows : Bytes) where
       (passed-more (s .row) (f + n) (f + (n + 1)) (omega arith) (w .passed)))
 
   -- a record by its row, which is row r
-  module _ (n id : ℕ) (a : ascending 0 (rowList k rows) ≡ true) (needs : needsRow k (slotBytes bytes n) ≡ true) (e : id ≡ f + suc n) where
-    by-row : lookupAt k (windowAreas f bytes rows) (f + suc n) ≡ lookupByHalves k id (rowList k rows)
-    by-row = lookup-row n a needs ∙ ap (λ (i : ℕ). lookupByHalves k i (rowList k rows)) (sym e)
+  module _ (n id : ℕ) (needs : needsRow k (slotBytes bytes n) ≡ true) (e : id ≡ f + suc n) where
+    by-row : lookupAt k (windowAreas f bytes rows) (f + suc n) ≡ lookup k id (rowList k rows)
+    by-row = lookup-row n needs ∙ ap (λ (i : ℕ). lookup k i (rowList k rows)) (sym e)
 
     pub step-row : (r : ℕ) (s : Sums) (v : Value) → After k f bytes rows n s → IsRow k rows id r → v ≡ rowValue k (getD (rowList k rows) r []) → v .strides < 2 ^ 32 → v .spans < 2 ^ 32
         → After k f bytes rows (n + 1) (plusValue s v (r + 1))
@@ -132,7 +128,7 @@ module _ (k : Kind) (f : ℕ) (bytes rows : Bytes) where
         let q : id ≤ f + (n + 1) = omega arith in
         after-next n s v (r + 1) w (by-row ∙ g .isFound ∙ ap (λ (u : Value). Found u) (sym ev)) hs hp (passed-more (r + 1) id (f + (n + 1)) q (g .passed))
 
-    pub lacks-row : lookupByHalves k id (rowList k rows) ≡ Missing → complete k (windowAreas f bytes rows) f (n + 1) ≡ false
+    pub lacks-row : lookup k id (rowList k rows) ≡ Missing → complete k (windowAreas f bytes rows) f (n + 1) ≡ false
     lacks-row m = lack-next n (by-row ∙ m)
 
 -- ---- sums that are stored

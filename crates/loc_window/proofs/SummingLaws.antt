@@ -12,27 +12,27 @@ use Rattle.loc_leaf.specs.Rows.{rowList}
 use Rattle.loc_window.specs.declared.Sums.{Sums}
 use Rattle.loc_window.specs.declared.Step.{Step}
 use Rattle.loc_window.specs.declared.Step.the-variants.{Next, Lack}
-use Rattle.loc_window.specs.Window.{windowAreas, complete, Passed, Rising, After, sumsOf, Ready, SumsStored, SlotStepped, Summing, WindowSummed}
+use Rattle.loc_window.specs.Window.{windowAreas, complete, Passed, RowsBefore, After, sumsOf, Ready, SumsStored, SlotStepped, Summing, WindowSummed}
 use Rattle.loc_window.proofs.SumLaws.{after-at}
 use Rattle.loc_window.proofs.StepLaws.{slot-next, slot-lack}
 use Rattle.loc_window.proofs.WindowLaws.{after-none, stored-none}
 
-module _ (k : Kind) (long f m : ℕ) (bytes rows : Bytes) (nr : ℕ) (mark : List ℕ) (stamp : ℕ) where
-  pub summing-begins : (row : ℕ) (body span : List ℕ) → m ≤ 1024 → m < long → f + 1024 < 2 ^ 64 → Rising k rows nr → Passed (rowList k rows) row f → 2 * m ≤ length bytes → length body ≡ long → length span ≡ long
-      → Summing k long f m bytes rows nr mark stamp 0 (sumsOf 0 0 row 0) body span
+module _ (k : Kind) (long f m : ℕ) (bytes rows : Bytes) (past : ℕ) (mark : List ℕ) (stamp : ℕ) where
+  pub summing-begins : (row : ℕ) (body span : List ℕ) → m ≤ 1024 → m < long → f + 1024 < 2 ^ 64 → RowsBefore k rows (f + 1024) past → Passed (rowList k rows) row f → 2 * m ≤ length bytes → length body ≡ long → length span ≡ long
+      → Summing k long f m bytes rows past mark stamp 0 (sumsOf 0 0 row 0) body span
   summing-begins row body span few room low rise p eb e₁ e₂ =
       record {
         bound = omega arith;
         bodyLong = e₁;
         spanLong = e₂;
-        ready = subst (λ (i : ℕ). Ready k f bytes rows nr i m (sumsOf 0 0 row 0) body span) none ready;
+        ready = subst (λ (i : ℕ). Ready k f bytes rows past i m (sumsOf 0 0 row 0) body span) none ready;
         stored = subst (λ (i : ℕ). SumsStored k f bytes rows mark stamp i body span) none (stored-none k f bytes rows mark stamp body span);
       }
     where
       none : 0 ≡ min (8 * 0) m
       none = omega arith
 
-      ready : Ready k f bytes rows nr 0 m (sumsOf 0 0 row 0) body span
+      ready : Ready k f bytes rows past 0 m (sumsOf 0 0 row 0) body span
       ready =
           record {
             order = omega arith;
@@ -45,11 +45,11 @@ module _ (k : Kind) (long f m : ℕ) (bytes rows : Bytes) (nr : ℕ) (mark : Lis
             after = after-none k f bytes rows row p;
           }
 
-  module _ (block : ℕ) (s : Sums) (body span : List ℕ) (w : Summing k long f m bytes rows nr mark stamp block s body span) where
+  module _ (block : ℕ) (s : Sums) (body span : List ℕ) (w : Summing k long f m bytes rows past mark stamp block s body span) where
     pub summing-asks : length mark ≡ 128 → 8 * block < m
-        → ((length mark ≡ 128) × (8 * block < m) × Ready k f bytes rows nr (8 * block) m s body span) × SumsStored k f bytes rows mark stamp (8 * block) body span
+        → ((length mark ≡ 128) × (8 * block < m) × Ready k f bytes rows past (8 * block) m s body span) × SumsStored k f bytes rows mark stamp (8 * block) body span
     summing-asks long h = (
-      (long, h, subst (λ (i : ℕ). Ready k f bytes rows nr i m s body span) whole (w .ready)),
+      (long, h, subst (λ (i : ℕ). Ready k f bytes rows past i m s body span) whole (w .ready)),
       subst (λ (i : ℕ). SumsStored k f bytes rows mark stamp i body span) whole (w .stored),
     )
       where
@@ -62,7 +62,7 @@ module _ (k : Kind) (long f m : ℕ) (bytes rows : Bytes) (nr : ℕ) (mark : Lis
 
     pub summing-next : (r : Step) (t : Sums) (body′ span′ : List ℕ) → SlotStepped k f bytes rows mark stamp block m body′ span′ r → r ≡ Next t
         → length body′ ≡ length body → length span′ ≡ length span
-        → Summing k long f m bytes rows nr mark stamp (t .block) (sumsOf (t .strides) (t .spans) (t .row) (t .block)) body′ span′
+        → Summing k long f m bytes rows past mark stamp (t .block) (sumsOf (t .strides) (t .spans) (t .row) (t .block)) body′ span′
     summing-next r t body′ span′ v e e₁ e₂ =
         record {
           bound = more .1;

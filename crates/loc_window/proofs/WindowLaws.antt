@@ -15,8 +15,7 @@ use Rattle.loc_leaf.specs.Slot.{slotAt}
 use Rattle.loc_leaf.specs.Rows.{rowList, valueIn}
 use Rattle.loc_calls.specs.Areas.{Areas}
 use Rattle.loc_calls.specs.Reading.{sumAfter, allAfter, lookupAt, has, valueAt, stridesAfter, spansAfter}
-use Rattle.loc_window.specs.Window.{windowAreas, complete, Passed, Rising, After, sumsOf, Right, SumsStored, Copied}
-use Rattle.loc_leaf.proofs.RowLaws.{rows-count}
+use Rattle.loc_window.specs.Window.{windowAreas, complete, Passed, After, sumsOf, Right, SumsStored, Copied}
 use Rattle.loc_window.proofs.SumLaws.{slot-two, lookup-is}
 
 -- ---- the begin
@@ -32,12 +31,8 @@ module _ (k : Kind) (f : ℕ) (bytes rows : Bytes) where
         isSpans = refl;
         stridesLow = omega arith;
         spansLow = omega arith;
-        passed = λ h i l. omega (arith, p h i l);
+        passed = λ i l. omega (arith, p i l);
       }
-
-  -- a place past the rows says nothing
-  pub past-rows : (count : ℕ) → Rising k rows count → Passed (rowList k rows) (count + 1) f
-  past-rows count r h = absurd (omega (arith, rows-count k rows, r .counted))
 
   pub stored-none : (mark : List ℕ) (stamp : ℕ) (body span : List ℕ) → SumsStored k f bytes rows mark stamp 0 body span
   stored-none mark stamp body span = record { here = λ j h. absurd (not-suc-le-zero h); next = λ j h. absurd (not-suc-le-zero h) }

@@ -11,7 +11,7 @@ use Rattle.loc_leaf.specs.Area.{fill}
 use Rattle.loc_leaf.specs.Kind.{rowWidth}
 use Rattle.loc_leaf.specs.declared.Value.{Value}
 use Rattle.loc_leaf.specs.declared.delta_loc.Lookup.the-variants.{Found, Missing}
-use Rattle.loc_leaf.specs.Rows.{rowList, rowValue, ascending, numberIn, lookupByHalves}
+use Rattle.loc_leaf.specs.Rows.{rowList, rowValue, ascending, numberIn, lookup}
 use Rattle.loc_calls.specs.Areas.{Areas}
 pub use Rattle.loc_calls.specs.Reading.{complete}
 use Rattle.loc_calls.specs.Reading.{stridesAfter, spansAfter}
@@ -26,14 +26,24 @@ use Rattle.loc_window.specs.declared.Step.the-variants.{Next, Lack}
 unfoldable pub windowAreas : ℕ → Bytes → Bytes → Areas
 windowAreas f bytes rows = record { slots = replicate (16 + 2 * f) 0 ++ bytes; rows = rows; checkpoints = [] }
 
--- the rows before a place are numbered up to id; a place past the rows says nothing
+-- the rows before a place are numbered up to id
 abbrev pub Passed : List Bytes → ℕ → ℕ → Type 0
-Passed rs place id = place ≤ length rs → (i : ℕ) → i < place → numberIn rs i ≤ id
+Passed rs place id = (i : ℕ) → i < place → numberIn rs i ≤ id
+
+-- the same, and none of them is numbered id
+abbrev pub Below : List Bytes → ℕ → ℕ → Type 0
+Below rs place id = (i : ℕ) → i < place → numberIn rs i < id
 
 -- the rows ascend, and there are so many
 pub record Rising (k : Kind) (rows : Bytes) (count : ℕ) : Type 0 where
   pub ascend : ascending 0 (rowList k rows) ≡ true
   pub counted : count ≡ fill (rowWidth k) rows
+
+-- the rows ascend, and those numbered up to `top` stand before a place
+pub record RowsBefore (k : Kind) (rows : Bytes) (top past : ℕ) : Type 0 where
+  pub ascend : ascending 0 (rowList k rows) ≡ true
+  pub inside : past ≤ fill (rowWidth k) rows
+  pub above : (i : ℕ) → past ≤ i → i < length (rowList k rows) → top < numberIn (rowList k rows) i
 
 -- s is what n records of the window add up to
 pub record After (k : Kind) (f : ℕ) (bytes rows : Bytes) (n : ℕ) (s : Sums) : Type 0 where
@@ -53,14 +63,14 @@ plusValue s v row = record { strides = s .strides + v .strides; spans = s .spans
 
 -- row r is the one that is numbered id, and the rows up to it are passed
 pub record IsRow (k : Kind) (rows : Bytes) (id r : ℕ) : Type 0 where
-  pub isFound : lookupByHalves k id (rowList k rows) ≡ Found (rowValue k (getD (rowList k rows) r []))
+  pub isFound : lookup k id (rowList k rows) ≡ Found (rowValue k (getD (rowList k rows) r []))
   pub passed : Passed (rowList k rows) (r + 1) id
 
--- the place of the row that is numbered id, or the count of rows where there is none
-pub record FoundRow (k : Kind) (rows : Bytes) (count id r : ℕ) : Type 0 where
-  pub inside : r ≤ count
-  pub there : r < count → IsRow k rows id r
-  pub missing : r ≡ count → lookupByHalves k id (rowList k rows) ≡ Missing
+-- the place of the row that is numbered id, which stands before `past`, or `past` where there is none
+pub record FoundRow (k : Kind) (rows : Bytes) (past id r : ℕ) : Type 0 where
+  pub inside : r ≤ past
+  pub there : r < past → IsRow k rows id r
+  pub missing : r ≡ past → lookup k id (rowList k rows) ≡ Missing
 
 -- the sums of j records stand in the arrays
 pub record Right (k : Kind) (f : ℕ) (bytes rows : Bytes) (j : ℕ) (body span : List ℕ) : Type 0 where
@@ -84,25 +94,25 @@ Recorded k f bytes rows block from n body₀ span₀ body span (Next s) =
 Recorded k f bytes rows block from n body₀ span₀ body span Lack = complete k (windowAreas f bytes rows) f n ≡ false
 
 -- what a walk over the records `from` to n asks
-pub record Ready (k : Kind) (f : ℕ) (bytes rows : Bytes) (count from n : ℕ) (s : Sums) (body span : List ℕ) : Type 0 where
+pub record Ready (k : Kind) (f : ℕ) (bytes rows : Bytes) (past from n : ℕ) (s : Sums) (body span : List ℕ) : Type 0 where
   pub order : from ≤ n
   pub few : n ≤ 1024
   pub copied : 2 * n ≤ length bytes
   pub bodyRoom : n < length body
   pub spanRoom : n < length span
   pub numbers : f + 1024 < 2 ^ 64
-  pub rise : Rising k rows count
+  pub rise : RowsBefore k rows (f + 1024) past
   pub after : After k f bytes rows from s
 
 -- ---- blocks of eight records
 
 -- what a walk over blocks up to `full` asks
-pub record BlockReady (k : Kind) (f : ℕ) (bytes rows : Bytes) (count full : ℕ) (s : Sums) : Type 0 where
+pub record BlockReady (k : Kind) (f : ℕ) (bytes rows : Bytes) (past full : ℕ) (s : Sums) : Type 0 where
   pub order : s .block ≤ full
   pub few : full ≤ 128
   pub copied : 16 * full ≤ length bytes
   pub numbers : f + 1024 < 2 ^ 64
-  pub rise : Rising k rows count
+  pub rise : RowsBefore k rows (f + 1024) past
   pub after : After k f bytes rows (8 * s .block) s
 
 -- ---- one block
@@ -166,11 +176,11 @@ SlotStepped k f bytes rows mark stamp block m body span (Next s) =
 SlotStepped k f bytes rows mark stamp block m body span Lack = complete k (windowAreas f bytes rows) f m ≡ false
 
 -- the blocks before a block of the window's first m records are summed, in arrays of some length
-pub record Summing (k : Kind) (long f m : ℕ) (bytes rows : Bytes) (nr : ℕ) (mark : List ℕ) (stamp block : ℕ) (s : Sums) (body span : List ℕ) : Type 0 where
+pub record Summing (k : Kind) (long f m : ℕ) (bytes rows : Bytes) (past : ℕ) (mark : List ℕ) (stamp block : ℕ) (s : Sums) (body span : List ℕ) : Type 0 where
   pub bound : 8 * block < m + 8
   pub bodyLong : length body ≡ long
   pub spanLong : length span ≡ long
-  pub ready : Ready k f bytes rows nr (min (8 * block) m) m s body span
+  pub ready : Ready k f bytes rows past (min (8 * block) m) m s body span
   pub stored : SumsStored k f bytes rows mark stamp (min (8 * block) m) body span
 
 -- the sums of the window's first m records, those of marked blocks in the arrays, or one of them lacks its row

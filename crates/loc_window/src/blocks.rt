@@ -68,8 +68,8 @@ pub fn mask_after(mask: u64, z: usize) -> u64
 }
 
 // One block of which some records need rows: its bytes added up, then each such record's row put in place of its bytes.
-fn pair_rows(bytes: &[u8], rows: &[u8], count: usize, base: u64, s: Sums) -> Step
-    requires { ⌜ BlockReady Paired base (now bytes) (now rows) count (s .block + 1) s ⌝ }
+fn pair_rows(bytes: &[u8], rows: &[u8], past: usize, base: u64, s: Sums) -> Step
+    requires { ⌜ BlockReady Paired base (now bytes) (now rows) past (s .block + 1) s ⌝ }
     ensures { λ r. ⌜ BlockStepped Paired base (now (bytes .entry)) (now (rows .entry)) (s .block) r ⌝ }
 {
     let lo = word_at(bytes, 16 * s.block);
@@ -82,11 +82,11 @@ fn pair_rows(bytes: &[u8], rows: &[u8], count: usize, base: u64, s: Sums) -> Ste
     while left != 0 {
         let z = lowest_record(left as u8) as usize;
         j += z;
-        row = find_row(Kind::Paired, rows, count, row, base + j as u64 + 1);
-        if row == count {
+        row = find_row(Kind::Paired, rows, past, row, base + j as u64 + 1);
+        if row == past {
             return Step::Lack;
         }
-        let v = row_value_at(Kind::Paired, rows, count, row);
+        let v = row_value_at(Kind::Paired, rows, row);
         x = x - bytes[2 * j] as u64 + v.strides as u64;
         y = y - bytes[2 * j + 1] as u64 + v.spans as u64;
         row += 1;
@@ -108,11 +108,11 @@ fn pair_blocks(
     mark: &[u64],
     stamp: u64,
     rows: &[u8],
-    count: usize,
+    past: usize,
     base: u64,
     s: Sums,
 ) -> Step
-    requires { ⌜ BlockReady Paired base (now bytes) (now rows) count full s × (full ≤ length (now mark)) ⌝ }
+    requires { ⌜ BlockReady Paired base (now bytes) (now rows) past full s × (full ≤ length (now mark)) ⌝ }
     ensures { λ r. ⌜ BlocksPassed Paired base (now (bytes .entry)) (now (rows .entry)) (now (mark .entry)) stamp (s .block) full r ⌝ }
 {
     let mut t = pair_plain(bytes, full, mark, stamp, s);
@@ -121,7 +121,7 @@ fn pair_blocks(
         if mark[b] == stamp {
             return Step::Next(t);
         }
-        let step = pair_rows(bytes, rows, count, base, t);
+        let step = pair_rows(bytes, rows, past, base, t);
         match step {
             Step::Next(u) => {
                 t = pair_plain(bytes, full, mark, stamp, u);
@@ -173,8 +173,8 @@ fn single_plain(bytes: &[u8], full: usize, mark: &[u64], stamp: u64, s: Sums) ->
 }
 
 // One block of which some records need rows: its bytes added up, then each such record's row put in place of its bytes.
-fn single_rows(bytes: &[u8], rows: &[u8], count: usize, base: u64, s: Sums) -> Step
-    requires { ⌜ BlockReady Single base (now bytes) (now rows) count (s .block + 1) s ⌝ }
+fn single_rows(bytes: &[u8], rows: &[u8], past: usize, base: u64, s: Sums) -> Step
+    requires { ⌜ BlockReady Single base (now bytes) (now rows) past (s .block + 1) s ⌝ }
     ensures { λ r. ⌜ BlockStepped Single base (now (bytes .entry)) (now (rows .entry)) (s .block) r ⌝ }
 {
     let lo = word_at(bytes, 16 * s.block);
@@ -186,11 +186,11 @@ fn single_rows(bytes: &[u8], rows: &[u8], count: usize, base: u64, s: Sums) -> S
     while left != 0 {
         let z = lowest_record(left as u8) as usize;
         j += z;
-        row = find_row(Kind::Single, rows, count, row, base + j as u64 + 1);
-        if row == count {
+        row = find_row(Kind::Single, rows, past, row, base + j as u64 + 1);
+        if row == past {
             return Step::Lack;
         }
-        let v = row_value_at(Kind::Single, rows, count, row);
+        let v = row_value_at(Kind::Single, rows, row);
         x += v.strides as u64;
         row += 1;
         j += 1;
@@ -211,11 +211,11 @@ fn single_blocks(
     mark: &[u64],
     stamp: u64,
     rows: &[u8],
-    count: usize,
+    past: usize,
     base: u64,
     s: Sums,
 ) -> Step
-    requires { ⌜ BlockReady Single base (now bytes) (now rows) count full s × (full ≤ length (now mark)) ⌝ }
+    requires { ⌜ BlockReady Single base (now bytes) (now rows) past full s × (full ≤ length (now mark)) ⌝ }
     ensures { λ r. ⌜ BlocksPassed Single base (now (bytes .entry)) (now (rows .entry)) (now (mark .entry)) stamp (s .block) full r ⌝ }
 {
     let mut t = single_plain(bytes, full, mark, stamp, s);
@@ -224,7 +224,7 @@ fn single_blocks(
         if mark[b] == stamp {
             return Step::Next(t);
         }
-        let step = single_rows(bytes, rows, count, base, t);
+        let step = single_rows(bytes, rows, past, base, t);
         match step {
             Step::Next(u) => {
                 t = single_plain(bytes, full, mark, stamp, u);
@@ -245,15 +245,15 @@ pub fn blocks(
     mark: &[u64],
     stamp: u64,
     rows: &[u8],
-    count: usize,
+    past: usize,
     base: u64,
     s: Sums,
 ) -> Step
-    requires { ⌜ BlockReady kind base (now bytes) (now rows) count full s × (full ≤ length (now mark)) ⌝ }
+    requires { ⌜ BlockReady kind base (now bytes) (now rows) past full s × (full ≤ length (now mark)) ⌝ }
     ensures { λ r. ⌜ BlocksPassed kind base (now (bytes .entry)) (now (rows .entry)) (now (mark .entry)) stamp (s .block) full r ⌝ }
 {
     match kind {
-        Kind::Paired => pair_blocks(bytes, full, mark, stamp, rows, count, base, s),
-        Kind::Single => single_blocks(bytes, full, mark, stamp, rows, count, base, s),
+        Kind::Paired => pair_blocks(bytes, full, mark, stamp, rows, past, base, s),
+        Kind::Single => single_blocks(bytes, full, mark, stamp, rows, past, base, s),
     }
 }

@@ -2,11 +2,20 @@
 // This crate is inner: its callers prove what it requires.
 pub mod blocks;
 pub mod checkpoint;
+pub mod plan;
 pub mod records;
 pub mod rows;
 pub mod window;
 
-// What the records of so many blocks add up to, and how many rows are passed; a number of rows past all of them says nothing.
+// What is looked at of a window: m records after `base` others, whose rows stand from place `first` on and before place `past`.
+pub struct PlannedWindow {
+    pub base: u64,
+    pub m: usize,
+    pub first: usize,
+    pub past: usize,
+}
+
+// What the records of so many blocks add up to, and how many rows are passed.
 pub struct Sums {
     pub strides: u64,
     pub spans: u64,

@@ -15,13 +15,13 @@ pub fn pair_records(
     from: usize,
     n: usize,
     rows: &[u8],
-    count: usize,
+    past: usize,
     base: u64,
     s: Sums,
     body: &mut [u64],
     span: &mut [u64],
 ) -> Step
-    requires { ⌜ Ready Paired base (now bytes) (now rows) count from n s (now body) (now span) ⌝ }
+    requires { ⌜ Ready Paired base (now bytes) (now rows) past from n s (now body) (now span) ⌝ }
     ensures { λ r. ⌜ Recorded Paired base (now (bytes .entry)) (now (rows .entry)) (s .block) from n (now (body .entry)) (now (span .entry)) (now (body .exit)) (now (span .exit)) r ⌝ }
 {
     let mut x = s.strides;
@@ -34,11 +34,11 @@ pub fn pair_records(
         let strides = bytes[2 * k];
         let spans = bytes[2 * k + 1];
         if needs_row(Kind::Paired, strides, spans) {
-            row = find_row(Kind::Paired, rows, count, row, base + k as u64 + 1);
-            if row == count {
+            row = find_row(Kind::Paired, rows, past, row, base + k as u64 + 1);
+            if row == past {
                 return Step::Lack;
             }
-            let v = row_value_at(Kind::Paired, rows, count, row);
+            let v = row_value_at(Kind::Paired, rows, row);
             x += v.strides as u64;
             y += v.spans as u64;
             row += 1;
@@ -64,13 +64,13 @@ pub fn single_records(
     from: usize,
     n: usize,
     rows: &[u8],
-    count: usize,
+    past: usize,
     base: u64,
     s: Sums,
     body: &mut [u64],
     span: &mut [u64],
 ) -> Step
-    requires { ⌜ Ready Single base (now bytes) (now rows) count from n s (now body) (now span) ⌝ }
+    requires { ⌜ Ready Single base (now bytes) (now rows) past from n s (now body) (now span) ⌝ }
     ensures { λ r. ⌜ Recorded Single base (now (bytes .entry)) (now (rows .entry)) (s .block) from n (now (body .entry)) (now (span .entry)) (now (body .exit)) (now (span .exit)) r ⌝ }
 {
     let mut x = s.strides;
@@ -83,11 +83,11 @@ pub fn single_records(
         let low = bytes[2 * k];
         let high = bytes[2 * k + 1];
         if needs_row(Kind::Single, low, high) {
-            row = find_row(Kind::Single, rows, count, row, base + k as u64 + 1);
-            if row == count {
+            row = find_row(Kind::Single, rows, past, row, base + k as u64 + 1);
+            if row == past {
                 return Step::Lack;
             }
-            let v = row_value_at(Kind::Single, rows, count, row);
+            let v = row_value_at(Kind::Single, rows, row);
             x += v.strides as u64;
             row += 1;
         } else {

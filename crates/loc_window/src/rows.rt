@@ -1,22 +1,22 @@
-// The row of a record: within a window the rows passed only grow, so a search goes on from them.
-// Where none are passed yet the rows are halved.
+// Rows of a window: their numbers and values where they stand, and the row of a record.
+// Records are taken in their order, so the rows passed only grow, and a search goes on from them.
 ghost use mathlib.Core.Path.{_≡_};
 ghost use mathlib.Core.List.{[]};
 ghost use Prim.Native.Nat.{_+_, _^_, _<_, _≤_};
 ghost use lib.ListN.{length, getD, take, drop};
+ghost use Rattle.loc_leaf.specs.Area.{fill};
 ghost use Rattle.loc_leaf.specs.Bytes.{bytes, numberAt};
-ghost use Rattle.loc_leaf.specs.Rows.{rowList, rowValue, numberIn, rowsUpToByHalves};
-ghost use Rattle.loc_window.specs.Window.{Passed, Rising, FoundRow};
+ghost use Rattle.loc_leaf.specs.Kind.{rowWidth};
+ghost use Rattle.loc_leaf.specs.Rows.{rowList, rowValue, numberIn};
+ghost use Rattle.loc_window.specs.Window.{Below, RowsBefore, FoundRow};
 use loc_leaf::Kind;
 use loc_leaf::Value;
 use loc_leaf::delta_loc::ROW_SPANS;
 use loc_leaf::delta_loc::ROW_STRIDES;
 use loc_leaf::delta_loc::row_width;
-use loc_leaf::delta_loc::rows_up_to;
 use loc_leaf::file::FILE_HEADER_LEN;
 use loc_leaf::file::eight;
 use loc_leaf::file::four;
-use loc_leaf::file::u64_at;
 
 // Eight bytes of a slice as a word.
 pub fn word_at(s: &[u8], at: usize) -> u64
@@ -44,16 +44,16 @@ fn half_at(s: &[u8], at: usize) -> u32
 }
 
 // The number of the row at a place.
-pub fn row_number(kind: Kind, rows: &[u8], count: usize, row: usize) -> u64
-    requires { ⌜ Rising kind (now rows) count × (row < count) ⌝ }
+pub fn row_number(kind: Kind, rows: &[u8], row: usize) -> u64
+    requires { ⌜ row < fill (rowWidth kind) (now rows) ⌝ }
     ensures { λ r. ⌜ r ≡ numberIn (rowList kind (now (rows .entry))) row ⌝ }
 {
     word_at(rows, FILE_HEADER_LEN + row_width(kind) * row)
 }
 
 // The value of the row at a place.
-pub fn row_value_at(kind: Kind, rows: &[u8], count: usize, row: usize) -> Value
-    requires { ⌜ Rising kind (now rows) count × (row < count) ⌝ }
+pub fn row_value_at(kind: Kind, rows: &[u8], row: usize) -> Value
+    requires { ⌜ row < fill (rowWidth kind) (now rows) ⌝ }
     ensures { λ r. ⌜ (r ≡ rowValue kind (getD (rowList kind (now (rows .entry))) row [])) × (r .strides < 2 ^ 32) × (r .spans < 2 ^ 32) ⌝ }
 {
     match kind {
@@ -68,58 +68,34 @@ pub fn row_value_at(kind: Kind, rows: &[u8], count: usize, row: usize) -> Value
     }
 }
 
-// How many rows have a number up to id, where the first `from` have.
-fn rows_from(kind: Kind, rows: &[u8], count: usize, from: usize, id: u64) -> usize
-    requires { ⌜ Rising kind (now rows) count × (from ≤ count) × Passed (rowList kind (now rows)) from id ⌝ }
-    ensures { λ r. ⌜ (r ≡ rowsUpToByHalves id (rowList kind (now (rows .entry)))) × (r ≤ count) ⌝ }
+// The place of a record's row between the rows passed and place `past`, or `past` where there is none.
+fn search_row(kind: Kind, rows: &[u8], past: usize, passed: usize, id: u64) -> usize
+    requires { ⌜ RowsBefore kind (now rows) id past × Below (rowList kind (now rows)) passed id ⌝ }
+    ensures { λ r. ⌜ FoundRow kind (now (rows .entry)) past id r ⌝ }
 {
-    let width = row_width(kind);
-    let mut p = from;
-    while p < count {
-        if id < u64_at(rows, FILE_HEADER_LEN + width * p) {
-            return p;
+    let mut row = passed;
+    while row < past {
+        let number = row_number(kind, rows, row);
+        if number == id {
+            return row;
         }
-        p += 1;
+        if id < number {
+            return past;
+        }
+        row += 1;
     }
-    p
-}
-
-// How many rows have a number up to id, where the first `passed` have, if there are that many.
-pub fn rows_to(kind: Kind, rows: &[u8], count: usize, passed: usize, id: u64) -> usize
-    requires { ⌜ Rising kind (now rows) count × Passed (rowList kind (now rows)) passed id ⌝ }
-    ensures { λ r. ⌜ (r ≡ rowsUpToByHalves id (rowList kind (now (rows .entry)))) × (r ≤ count) ⌝ }
-{
-    if count < passed {
-        return rows_up_to(kind, rows, id);
-    }
-    rows_from(kind, rows, count, passed, id)
-}
-
-// The place of a record's row, which is the last of those with a number up to its own; `count` where there is none.
-fn search_row(kind: Kind, rows: &[u8], count: usize, passed: usize, id: u64) -> usize
-    requires { ⌜ Rising kind (now rows) count × Passed (rowList kind (now rows)) passed id ⌝ }
-    ensures { λ r. ⌜ FoundRow kind (now (rows .entry)) count id r ⌝ }
-{
-    let p = rows_to(kind, rows, count, passed, id);
-    if p == 0 {
-        return count;
-    }
-    let row = p - 1;
-    if row_number(kind, rows, count, row) == id {
-        return row;
-    }
-    count
+    past
 }
 
 // The same, where the next row is looked at first.
-pub fn find_row(kind: Kind, rows: &[u8], count: usize, passed: usize, id: u64) -> usize
-    requires { ⌜ Rising kind (now rows) count × Passed (rowList kind (now rows)) passed id ⌝ }
-    ensures { λ r. ⌜ FoundRow kind (now (rows .entry)) count id r ⌝ }
+pub fn find_row(kind: Kind, rows: &[u8], past: usize, passed: usize, id: u64) -> usize
+    requires { ⌜ RowsBefore kind (now rows) id past × Below (rowList kind (now rows)) passed id ⌝ }
+    ensures { λ r. ⌜ FoundRow kind (now (rows .entry)) past id r ⌝ }
 {
-    if passed < count {
-        if row_number(kind, rows, count, passed) == id {
+    if passed < past {
+        if row_number(kind, rows, passed) == id {
             return passed;
         }
     }
-    search_row(kind, rows, count, passed, id)
+    search_row(kind, rows, past, passed, id)
 }

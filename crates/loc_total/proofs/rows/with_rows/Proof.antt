@@ -4,7 +4,7 @@ use Prim.Native.Nat.{_+_, _-_, _≤_}
 use native.Mathlib.Omega.{arith}
 use borrow.Author.Needs.{needs}
 use Rattle.loc_total.specs.Total.{WithRows}
-use Rattle.loc_total.proofs.TotalLaws.{with-at, with-all}
+use Rattle.loc_total.proofs.TotalLaws.{ready-counted, with-at, with-all}
 use Rattle.loc_total.proofs.rows.with_rows.Statement.{statement}
 use Rattle.loc_total.proofs.rows.with_rows.Tie as tie
 
@@ -21,13 +21,13 @@ sub-row : tie.Need-sub-row Inv-loop μ-loop
 sub-row c = search needs
 
 row-number-requires : tie.Need-row-number-requires Inv-loop μ-loop
-row-number-requires c κs = (c .before .before .before .before .pre .0 .rise, omega (arith, c .loop-test .taken, c .before .loop .inv .0))
+row-number-requires c κs = omega (arith, c .loop-test .taken, c .before .loop .inv .0, c .before .before .before .before .pre .0 .rise .counted)
 
 returns : tie.Need-returns Inv-loop μ-loop
 returns c = with-all _ _ _ _ _ _ (c .before .before .before .before .before .before .pre .0 .rise) (c .before .before .before .loop .row - 1) _ (omega (arith, c .before .before .loop-test .taken, c .before .before .before .loop .inv .0)) (omega (arith, c .before .row-number .ensures, c .if1 .taken)) (with-at _ _ _ _ _ (c .before .before .before .loop .row) (c .before .before .before .loop .row - 1 + 1) _ (omega (arith, c .before .before .loop-test .taken)) (c .before .before .before .loop .inv .1))
 
 with-row-requires : tie.Need-with-row-requires Inv-loop μ-loop
-with-row-requires c κs = ((c .before .before .before .before .before .before .pre .0, with-at _ _ _ _ _ (c .before .before .before .loop .row) (c .before .before .before .loop .row - 1 + 1) _ (omega (arith, c .before .before .loop-test .taken)) (c .before .before .before .loop .inv .1)), (omega (arith, c .before .before .loop-test .taken, c .before .before .before .loop .inv .0), c .before .row-number .ensures, c .if1 .left))
+with-row-requires c κs = ((ready-counted _ _ _ _ _ _ (c .before .before .before .before .before .before .pre .0 .rise) (c .before .before .before .before .before .before .pre .0), with-at _ _ _ _ _ (c .before .before .before .loop .row) (c .before .before .before .loop .row - 1 + 1) _ (omega (arith, c .before .before .loop-test .taken)) (c .before .before .before .loop .inv .1)), (omega (arith, c .before .before .loop-test .taken, c .before .before .before .loop .inv .0, c .before .before .before .before .before .before .pre .0 .rise .counted), c .before .row-number .ensures, c .if1 .left))
 
 loop-less : tie.Need-loop-less Inv-loop μ-loop
 loop-less c = omega (arith, c .before .before .before .loop-test .taken)

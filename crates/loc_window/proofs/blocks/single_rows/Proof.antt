@@ -10,7 +10,7 @@ use Rattle.loc_leaf.specs.Slot.{inline}
 use Rattle.loc_leaf.specs.Block.{sumFrom}
 use Rattle.loc_window.specs.Window.{Swapping}
 use Rattle.loc_window.proofs.SumLaws.{after-small}
-use Rattle.loc_window.proofs.BlocksLaws.{single-empty, single-spans, swap-begin, swap-end, swap-byte, swap-in, swap-needs, swap-passed, swap-small, swap-lack, swap-next}
+use Rattle.loc_window.proofs.BlocksLaws.{single-empty, single-spans, swap-begin, swap-end, swap-byte, swap-in, swap-needs, swap-asks, swap-small, swap-lack, swap-next}
 use Rattle.loc_window.proofs.blocks.single_rows.Statement.{statement}
 use Rattle.loc_window.proofs.blocks.single_rows.Tie as tie
 
@@ -77,7 +77,7 @@ add-find-row-2 : tie.Need-add-find-row-2 Inv-loop μ-loop
 add-find-row-2 c = omega (arith, swap-in _ _ _ _ _ _ _ _ _ _ _ (c .before .before .loop .inv .2) (omega (arith, c .before .before .loop .inv .0)) (c .before .loop-test .taken) (c .lowest-record .ensures), c .before .before .loop .inv .1, c .before .before .before .before .before .before .before .before .before .before .before .before .before .pre .few, c .before .before .before .before .before .before .before .before .before .before .before .before .before .pre .numbers)
 
 find-row-requires : tie.Need-find-row-requires Inv-loop μ-loop
-find-row-requires c κs = (c .before .before .before .before .before .before .before .before .before .before .before .before .before .pre .rise, swap-passed _ _ _ _ _ _ _ _ _ _ _ (c .before .before .loop .inv .2) (omega (arith, c .before .before .loop .inv .0)) (c .before .loop-test .taken) (c .lowest-record .ensures) _ (omega arith))
+find-row-requires c κs = swap-asks _ _ _ _ _ _ _ _ _ _ _ (c .before .before .loop .inv .2) (omega (arith, c .before .before .loop .inv .0)) (c .before .loop-test .taken) (c .lowest-record .ensures) _ _ refl (omega (arith, c .before .before .loop .inv .1, c .before .before .before .before .before .before .before .before .before .before .before .before .before .pre .few)) (c .before .before .before .before .before .before .before .before .before .before .before .before .before .pre .rise)
 
 returns : tie.Need-returns Inv-loop μ-loop
 returns c =
@@ -85,10 +85,10 @@ returns c =
     let c₂ = c₁ .before in
     let c₃ = c₂ .before in
     let c₄ = c₃ .before .before .before .before .before .before .before .before .before .before .before in
-    swap-lack _ _ _ _ _ _ _ _ _ _ _ (c₃ .loop .inv .2) (omega (arith, c₃ .loop .inv .0)) (c₂ .loop-test .taken) (c₁ .lowest-record .ensures) _ _ _ (c₄ .pre .rise) (omega arith) (c .before .find-row .ensures) _ (c .if1 .taken) (omega (arith, c₃ .loop .inv .1))
+    swap-lack _ _ _ _ _ _ _ _ _ _ _ (c₃ .loop .inv .2) (omega (arith, c₃ .loop .inv .0)) (c₂ .loop-test .taken) (c₁ .lowest-record .ensures) _ _ _ (omega arith) (c .before .find-row .ensures) _ (c .if1 .taken) (omega (arith, c₃ .loop .inv .1))
 
 row-value-at-requires : tie.Need-row-value-at-requires Inv-loop μ-loop
-row-value-at-requires c κs = (c .before .before .before .before .before .before .before .before .before .before .before .before .before .before .before .pre .rise, omega (arith, c .before .find-row .ensures .inside, c .if1 .left))
+row-value-at-requires c κs = omega (arith, c .before .find-row .ensures .inside, c .if1 .left, c .before .before .before .before .before .before .before .before .before .before .before .before .before .before .before .pre .rise .inside)
 
 cast-x : tie.Need-cast-x Inv-loop μ-loop
 cast-x c = search needs
@@ -129,7 +129,7 @@ loop-again c =
     let c₇ = c₆ .before .before .before .before .before .before .before .before .before .before .before in (
       omega (arith, c₆ .loop .inv .0),
       omega (arith, swap-in _ _ _ _ _ _ _ _ _ _ _ (c₆ .loop .inv .2) (omega (arith, c₆ .loop .inv .0)) (c₅ .loop-test .taken) (c₄ .lowest-record .ensures), c₆ .loop .inv .1),
-      swap-next _ _ _ _ _ _ _ _ _ _ _ (c₆ .loop .inv .2) (omega (arith, c₆ .loop .inv .0)) (c₅ .loop-test .taken) (c₄ .lowest-record .ensures) _ _ _ (c₇ .pre .rise) (omega arith) (c₃ .find-row .ensures) (c₁ .row-value-at .result) _ _ _ _ _ (omega (arith, c₃ .find-row .ensures .inside, c₂ .if1 .left)) (c₁ .row-value-at .ensures .0) (c₁ .row-value-at .ensures .1) (c₁ .row-value-at .ensures .2)
+      swap-next _ _ _ _ _ _ _ _ _ _ _ (c₆ .loop .inv .2) (omega (arith, c₆ .loop .inv .0)) (c₅ .loop-test .taken) (c₄ .lowest-record .ensures) _ _ _ (omega arith) (c₃ .find-row .ensures) (c₁ .row-value-at .result) _ _ _ _ _ (omega (arith, c₃ .find-row .ensures .inside, c₂ .if1 .left)) (c₁ .row-value-at .ensures .0) (c₁ .row-value-at .ensures .1) (c₁ .row-value-at .ensures .2)
           (omega (arith, single-empty (now (c₇ .args .bytes)) (c₆ .loop .j + c₄ .lowest-record .result) (swap-needs _ _ _ _ _ _ _ _ _ _ _ (c₆ .loop .inv .2) (omega (arith, c₆ .loop .inv .0)) (c₅ .loop-test .taken) (c₄ .lowest-record .ensures)) .0))
           (omega (arith, single-empty (now (c₇ .args .bytes)) (c₆ .loop .j + c₄ .lowest-record .result) (swap-needs _ _ _ _ _ _ _ _ _ _ _ (c₆ .loop .inv .2) (omega (arith, c₆ .loop .inv .0)) (c₅ .loop-test .taken) (c₄ .lowest-record .ensures)) .1, single-spans _ _ (c₁ .row-value-at .ensures .0)))
           (c .mask-after .ensures) refl (omega (arith, swap-in _ _ _ _ _ _ _ _ _ _ _ (c₆ .loop .inv .2) (omega (arith, c₆ .loop .inv .0)) (c₅ .loop-test .taken) (c₄ .lowest-record .ensures), c₆ .loop .inv .1)),

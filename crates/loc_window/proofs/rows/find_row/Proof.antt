@@ -1,14 +1,15 @@
 -- `loc_window::rows::find_row` meets its contract.
+use native.Mathlib.Omega.{arith}
 use borrow.Author.Needs.{needs}
 use Rattle.loc_window.proofs.RowsLaws.{found-row}
 use Rattle.loc_window.proofs.rows.find_row.Statement.{statement}
 use Rattle.loc_window.proofs.rows.find_row.Tie as tie
 
 row-number-requires : tie.Need-row-number-requires
-row-number-requires c κs = search needs
+row-number-requires c κs = omega (arith, c .before .before .pre .0 .inside)
 
 returns : tie.Need-returns
-returns c = found-row _ _ _ (c .before .before .before .before .pre .0) _ _ _ (c .before .before .if1 .taken) (c .before .row-number .ensures) (c .if2 .taken)
+returns c = found-row _ _ _ _ (c .before .before .before .before .pre .0) _ _ (c .before .before .if1 .taken) (c .before .row-number .ensures) (c .if2 .taken)
 
 search-row-requires : tie.Need-search-row-requires
 search-row-requires c κs = search needs
