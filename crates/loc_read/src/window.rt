@@ -52,7 +52,19 @@ pub fn read_window(
         2 * window.m,
         &mut bytes,
     );
-    let step = window_sums(kind, &bytes, window, mark, 1, rows, &mut body, &mut span);
+    let step = window_sums(
+        kind,
+        &bytes,
+        window.m,
+        mark,
+        1,
+        rows,
+        window.past,
+        window.base,
+        window.first,
+        &mut body,
+        &mut span,
+    );
     let Step::Next(_) = step else {
         return refused(ROW_MISSING);
     };

@@ -5,7 +5,6 @@ ghost use Rattle.loc_calls.specs.Areas.{areas};
 ghost use Rattle.loc_whole.specs.Totals.{Walkable, Lent, Totalled};
 use loc_leaf::Kind;
 use loc_leaf::file::FILE_HEADER_LEN;
-use loc_window::PlannedWindow;
 use loc_window::Step;
 use loc_window::window::window_sums;
 
@@ -27,19 +26,16 @@ pub fn totals(
 {
     let at = FILE_HEADER_LEN + 2 * base as usize;
     let end = at + 2 * m;
-    let part = PlannedWindow {
-        base,
-        m,
-        first: row,
-        past: row_count,
-    };
     window_sums(
         Kind::Paired,
         &slots[at..end],
-        part,
+        m,
         mark,
         stamp,
         rows,
+        row_count,
+        base,
+        row,
         body,
         span,
     )

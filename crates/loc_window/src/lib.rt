@@ -7,7 +7,7 @@ pub mod records;
 pub mod rows;
 pub mod window;
 
-// What is looked at of a window: m records after `base` others, whose rows stand from place `first` on and before place `past`.
+// A window that is read: m records are looked at after `base` others, and its rows stand from place `first` on and before place `past`.
 pub struct PlannedWindow {
     pub base: u64,
     pub m: usize,

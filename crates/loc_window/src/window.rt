@@ -1,10 +1,9 @@
 // The sums of a window's records, one after the other and by blocks of eight.
-// `base` records stand before the window; record k of the window is numbered base + k + 1.
+// `base` records stand before the window; record k of the window is numbered base + k + 1. Its rows stand before place `past`.
 ghost use mathlib.Core.Path.{_≡_};
 ghost use Prim.Native.Nat.{_+_, _*_, _<_, _≤_, min};
 ghost use lib.ListN.{length};
 ghost use Rattle.loc_window.specs.Window.{sumsOf, Ready, SumsStored, SlotStepped, Summing, WindowSummed, Copied};
-use crate::PlannedWindow;
 use crate::Step;
 use crate::Sums;
 use crate::blocks::blocks;
@@ -40,21 +39,20 @@ fn block_end(blocks: usize, m: usize) -> usize
 fn marked_records(
     kind: Kind,
     bytes: &[u8],
-    window: PlannedWindow,
+    m: usize,
     mark: &[u64],
     stamp: u64,
     rows: &[u8],
+    past: usize,
+    base: u64,
     s: Sums,
     body: &mut [u64],
     span: &mut [u64],
 ) -> Step
-    requires { ⌜ (length (now mark) ≡ 128) × (8 * s .block < window .m) × Ready kind (window .base) (now bytes) (now rows) (window .past) (8 * s .block) (window .m) s (now body) (now span) ⌝ }
-    requires { ⌜ SumsStored kind (window .base) (now bytes) (now rows) (now mark) stamp (8 * s .block) (now body) (now span) ⌝ }
-    ensures { λ r. ⌜ SlotStepped kind (window .base) (now (bytes .entry)) (now (rows .entry)) (now (mark .entry)) stamp (s .block) (window .m) (now (body .exit)) (now (span .exit)) r ⌝ }
+    requires { ⌜ (length (now mark) ≡ 128) × (8 * s .block < m) × Ready kind base (now bytes) (now rows) past (8 * s .block) m s (now body) (now span) ⌝ }
+    requires { ⌜ SumsStored kind base (now bytes) (now rows) (now mark) stamp (8 * s .block) (now body) (now span) ⌝ }
+    ensures { λ r. ⌜ SlotStepped kind base (now (bytes .entry)) (now (rows .entry)) (now (mark .entry)) stamp (s .block) m (now (body .exit)) (now (span .exit)) r ⌝ }
 {
-    let m = window.m;
-    let past = window.past;
-    let base = window.base;
     let from = s.block;
     let end = marked_end(mark, stamp, from, (m + 7) / 8);
     let n = block_end(end, m);
@@ -70,25 +68,27 @@ fn marked_records(
     }
 }
 
-// The sums some blocks further on in the window's records that are looked at, or that one of them lacks its row.
+// The sums some blocks further on in the window's first m records, or that one of them lacks its row.
 // The sums of marked blocks are stored one by one, those of others are not.
 pub fn slot_step(
     kind: Kind,
     bytes: &[u8],
     block: usize,
-    window: PlannedWindow,
+    m: usize,
     mark: &[u64],
     stamp: u64,
     rows: &[u8],
+    past: usize,
+    base: u64,
     strides: u64,
     spans: u64,
     row: usize,
     body: &mut [u64],
     span: &mut [u64],
 ) -> Step
-    requires { ⌜ (length (now mark) ≡ 128) × (8 * block < window .m) × Ready kind (window .base) (now bytes) (now rows) (window .past) (8 * block) (window .m) (sumsOf strides spans row block) (now body) (now span) ⌝ }
-    requires { ⌜ SumsStored kind (window .base) (now bytes) (now rows) (now mark) stamp (8 * block) (now body) (now span) ⌝ }
-    ensures { λ r. ⌜ SlotStepped kind (window .base) (now (bytes .entry)) (now (rows .entry)) (now (mark .entry)) stamp block (window .m) (now (body .exit)) (now (span .exit)) r ⌝ }
+    requires { ⌜ (length (now mark) ≡ 128) × (8 * block < m) × Ready kind base (now bytes) (now rows) past (8 * block) m (sumsOf strides spans row block) (now body) (now span) ⌝ }
+    requires { ⌜ SumsStored kind base (now bytes) (now rows) (now mark) stamp (8 * block) (now body) (now span) ⌝ }
+    ensures { λ r. ⌜ SlotStepped kind base (now (bytes .entry)) (now (rows .entry)) (now (mark .entry)) stamp block m (now (body .exit)) (now (span .exit)) r ⌝ }
 {
     let s = Sums {
         strides,
@@ -96,58 +96,53 @@ pub fn slot_step(
         row,
         block,
     };
-    let step = blocks(
-        kind,
-        bytes,
-        window.m / 8,
-        mark,
-        stamp,
-        rows,
-        window.past,
-        window.base,
-        s,
-    );
+    let step = blocks(kind, bytes, m / 8, mark, stamp, rows, past, base, s);
     match step {
         Step::Next(t) => {
-            if window.m <= 8 * t.block {
+            if m <= 8 * t.block {
                 return Step::Next(t);
             }
-            marked_records(kind, bytes, window, mark, stamp, rows, t, body, span)
+            marked_records(kind, bytes, m, mark, stamp, rows, past, base, t, body, span)
         }
         Step::Lack => Step::Lack,
     }
 }
 
-// The sums of a window's records that are looked at, or that one of them lacks its row.
+// The sums of a window's first m records, whose rows stand from place `row` on and before place `past`, or that one of them lacks its row.
 pub fn window_sums(
     kind: Kind,
     bytes: &[u8],
-    window: PlannedWindow,
+    m: usize,
     mark: &[u64],
     stamp: u64,
     rows: &[u8],
+    past: usize,
+    base: u64,
+    row: usize,
     body: &mut [u64],
     span: &mut [u64],
 ) -> Step
-    requires { ⌜ (length (now mark) ≡ 128) × Summing kind (length (now body)) (window .base) (window .m) (now bytes) (now rows) (window .past) (now mark) stamp 0 (sumsOf 0 0 (window .first) 0) (now body) (now span) ⌝ }
-    ensures { λ r. ⌜ WindowSummed kind (window .base) (now (bytes .entry)) (now (rows .entry)) (now (mark .entry)) stamp (window .m) (now (body .exit)) (now (span .exit)) r ⌝ }
+    requires { ⌜ (length (now mark) ≡ 128) × Summing kind (length (now body)) base m (now bytes) (now rows) past (now mark) stamp 0 (sumsOf 0 0 row 0) (now body) (now span) ⌝ }
+    ensures { λ r. ⌜ WindowSummed kind base (now (bytes .entry)) (now (rows .entry)) (now (mark .entry)) stamp m (now (body .exit)) (now (span .exit)) r ⌝ }
 {
     let mut strides: u64 = 0;
     let mut spans: u64 = 0;
-    let mut row = window.first;
+    let mut passed = row;
     let mut block: usize = 0;
-    while 8 * block < window.m {
+    while 8 * block < m {
         let step = slot_step(
             kind,
             bytes,
             block,
-            window,
+            m,
             mark,
             stamp,
             rows,
+            past,
+            base,
             strides,
             spans,
-            row,
+            passed,
             body,
             span,
         );
@@ -155,7 +150,7 @@ pub fn window_sums(
             Step::Next(t) => {
                 strides = t.strides;
                 spans = t.spans;
-                row = t.row;
+                passed = t.row;
                 block = t.block;
             }
             Step::Lack => {
@@ -166,7 +161,7 @@ pub fn window_sums(
     Step::Next(Sums {
         strides,
         spans,
-        row,
+        row: passed,
         block,
     })
 }

@@ -170,7 +170,7 @@ loop-again : tie.Need-loop-again Inv-loop μ-loop Inv-windows μ-windows
 loop-again c =
     let l = c .before .before .before .before .before .before .before .before .before .before .before .before in
     let t = c .before .before .before .before .before in
-    (l .loop .inv .0, summing-next _ _ _ _ _ _ _ _ _ _ _ _ _ (l .loop .inv .1) _ _ _ _ (t .slot-step .ensures) (c .before .step .given .1) (t .slot-step .kept .1 .1 .1 .1 .1 .1 .1 .1 .1 .1 .0) (t .slot-step .kept .1 .1 .1 .1 .1 .1 .1 .1 .1 .1 .1 .0))
+    (l .loop .inv .0, summing-next _ _ _ _ _ _ _ _ _ _ _ _ _ (l .loop .inv .1) _ _ _ _ (t .slot-step .ensures) (c .before .step .given .1) (t .slot-step .kept .1 .1 .1 .1 .1 .1 .1 .1 .1 .1 .1 .1 .0) (t .slot-step .kept .1 .1 .1 .1 .1 .1 .1 .1 .1 .1 .1 .1 .1 .0))
 
 enum-told : tie.Need-enum-told Inv-loop μ-loop Inv-windows μ-windows
 enum-told c = search needs

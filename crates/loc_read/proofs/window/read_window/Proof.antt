@@ -122,7 +122,7 @@ put-window-requires c κs =
     let p = c .before .before .before .before .before .before .before .before .before .before .before .before .before .before .before .before .before in
     let k = c .before .before .before .before .before .before .before .before .before .before .before .before .before .before in
     let t = c .before .before .before .before .before .before .before .before .before in
-    own-puts _ _ _ _ _ (b .pre .0) _ _ (b .pre .1 .1) _ (w .loc-window .ensures) _ (p .plan-window .ensures) _ _ (k .copy-slots .ensures) _ _ _ (t .window-sums .ensures) _ (c .before .before .before .before .before .enum-told .given .1) (t .window-sums .kept .1 .1 .1 .1 .1 .1 .0 ∙ length-replicate {A = ℕ} 1025 0) (t .window-sums .kept .1 .1 .1 .1 .1 .1 .1 .0 ∙ length-replicate {A = ℕ} 1025 0)
+    own-puts _ _ _ _ _ (b .pre .0) _ _ (b .pre .1 .1) _ (w .loc-window .ensures) _ (p .plan-window .ensures) _ _ (k .copy-slots .ensures) _ _ _ (t .window-sums .ensures) _ (c .before .before .before .before .before .enum-told .given .1) (t .window-sums .kept .1 .1 .1 .1 .1 .1 .1 .1 .1 .0 ∙ length-replicate {A = ℕ} 1025 0) (t .window-sums .kept .1 .1 .1 .1 .1 .1 .1 .1 .1 .1 .0 ∙ length-replicate {A = ℕ} 1025 0)
 
 accepted-requires : tie.Need-accepted-requires
 accepted-requires c κs = search needs
@@ -137,7 +137,7 @@ returns-2 c =
     let p = c .before .before .before .before .before .before .before .before .before .before .before .before .before .before .before .before .before .before .before .before .before in
     let k = c .before .before .before .before .before .before .before .before .before .before .before .before .before .before .before .before .before .before in
     let t = c .before .before .before .before .before .before .before .before .before .before .before .before .before in
-    own-read _ _ _ _ _ (b .pre .0) _ _ (b .pre .1 .1) _ (w .loc-window .ensures) _ (p .plan-window .ensures) _ _ (k .copy-slots .ensures) _ _ _ (t .window-sums .ensures) _ (c .before .before .before .before .before .before .before .before .before .enum-told .given .1) (t .window-sums .kept .1 .1 .1 .1 .1 .1 .0 ∙ length-replicate {A = ℕ} 1025 0) (t .window-sums .kept .1 .1 .1 .1 .1 .1 .1 .0 ∙ length-replicate {A = ℕ} 1025 0) _ _ _ (c .before .before .before .before .before .before .before .before .window-end .ensures _ _) (c .before .before .before .before .before .before .before .window-end2 .ensures _ _) (c .before .before .before .put-window .ensures) _ (c .accepted .ensures)
+    own-read _ _ _ _ _ (b .pre .0) _ _ (b .pre .1 .1) _ (w .loc-window .ensures) _ (p .plan-window .ensures) _ _ (k .copy-slots .ensures) _ _ _ (t .window-sums .ensures) _ (c .before .before .before .before .before .before .before .before .before .enum-told .given .1) (t .window-sums .kept .1 .1 .1 .1 .1 .1 .1 .1 .1 .0 ∙ length-replicate {A = ℕ} 1025 0) (t .window-sums .kept .1 .1 .1 .1 .1 .1 .1 .1 .1 .1 .0 ∙ length-replicate {A = ℕ} 1025 0) _ _ _ (c .before .before .before .before .before .before .before .before .window-end .ensures _ _) (c .before .before .before .before .before .before .before .window-end2 .ensures _ _) (c .before .before .before .put-window .ensures) _ (c .accepted .ensures)
 
 pub read-window-spec : {M : Type 1} → statement M
 read-window-spec =
