@@ -1,11 +1,9 @@
 -- `loc_read::window::read_window` meets its contract.
 use Prim.Native.Nat.{ℕ}
-use mathlib.Core.Path.{refl, _∙_}
+use mathlib.Core.Path.{_∙_}
 use native.Mathlib.Omega.{arith}
 use lib.ListN.{length-replicate}
 use borrow.Author.Needs.{needs}
-use denote.Ref.{now}
-use Rattle.loc_leaf.specs.Rows.{rowList}
 use Rattle.loc_window.proofs.PlannedLaws.{none-passed}
 use Rattle.loc_read.proofs.WalkLaws.{turn-few, turn-room, turn-low}
 use Rattle.loc_read.proofs.OwnLaws.{own-low, own-turn, own-asks, own-17, own-puts, own-read}

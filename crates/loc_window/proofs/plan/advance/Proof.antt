@@ -1,7 +1,6 @@
 -- `loc_window::plan::advance` meets its contract.
 use native.Mathlib.Omega.{arith}
 use mathlib.Core.Path.{refl}
-use borrow.Author.Needs.{needs}
 use denote.Ref.{now}
 use Rattle.loc_window.proofs.RowsLaws.{few-rows}
 use Rattle.loc_window.proofs.PlannedLaws.{near-quarters, near-few}

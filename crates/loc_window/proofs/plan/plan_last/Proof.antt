@@ -1,7 +1,5 @@
 -- `loc_window::plan::plan_last` meets its contract.
 -- The invariant: both places are at most as many rows further on as are left.
-use Prim.Native.Nat.{_+_}
-use mathlib.Core.Path.{_≡_, refl}
 use native.Mathlib.Omega.{arith}
 use denote.Ref.{now}
 use Rattle.loc_window.specs.Planned.{Nearing}
@@ -47,8 +45,8 @@ loop-less c = omega (arith, c .before .before .loop-test .taken)
 loop-again : tie.Need-loop-again Inv-loop μ-loop
 loop-again c =
     let n = c .before .before .before .loop .inv in
-    let f = near-one _ _ _ _ (c .before .before .loop-test .taken) (c .before .passes .ensures) (n .firstNear) in
-    let p = near-one _ _ _ _ (c .before .before .loop-test .taken) (c .passes2 .ensures) (n .pastNear) in
+    let f = near-one _ _ _ _ (omega (arith, c .before .before .loop-test .taken)) (c .before .passes .ensures) (n .firstNear) in
+    let p = near-one _ _ _ _ (omega (arith, c .before .before .loop-test .taken)) (c .passes2 .ensures) (n .pastNear) in
     nearing-next _ _ _ _ _ _ _ _ _ n (f .0) (p .0) (f .1) (p .1)
 
 returns : tie.Need-returns Inv-loop μ-loop
