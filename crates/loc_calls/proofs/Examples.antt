@@ -23,6 +23,7 @@ use Rattle.loc_calls.specs.Reading.{sumAfter, allAfter, firstAfter, look
 use Rattle.loc_calls.specs.Audit.{bodyEndAfter, spanEndAfter, checkpointSound, rowFits, rowWanted, rowSound, rowsSound, sound}
 use Rattle.loc_calls.specs.Calls.{unlessRefused, tooSmall, wholeRefusal, unread, isOpening, refusal, places, placeCount, value, lent, buffer, areasAfter, call, createPlaces, create, audit}
 use Rattle.loc_calls.specs.SpanAt.{holds, refusedBy, crossing, spanAmong, spanAt}
+use Rattle.loc_calls.specs.Parts.{someBelow, thoseBelow, reaches, needed, strange, comesBefore, misplaced, firstFault, pairsRefusal, partsRefusal, written, callRefusal, parts}
 
 -- ---- areas
 
@@ -118,6 +119,16 @@ beyond body span = three (area 2066 (replicate 2050 5)) (area 16 []) (area 32 (b
 abbrev startsAt : ℕ → ℕ → Call
 startsAt body span = batch (body ∷ []) (8 ∷ []) (span ∷ []) (1 ∷ [])
 
+-- nine records, of which 5 is made of 1 and 2, 7 of 3 and 5, 8 of 5 and 7, 9 of 4
+abbrev nine : Areas
+nine = three (area 34 (replicate 18 1)) (area 16 []) (area 16 [])
+
+abbrev composites : List ℕ
+composites = 5 ∷ 5 ∷ 7 ∷ 7 ∷ 8 ∷ 8 ∷ 9 ∷ []
+
+abbrev components : List ℕ
+components = 1 ∷ 2 ∷ 3 ∷ 5 ∷ 5 ∷ 7 ∷ 4 ∷ []
+
 -- ---- every number that opening, append, truncation and reading give: 1 to 17 and 22 to 24
 
 abbrev numbers : List ℕ
@@ -142,6 +153,22 @@ numbers =
     ∷ numberOf Paired (batch (16 ∷ []) (0 ∷ []) (16 ∷ []) (1 ∷ [])) empty
     ∷ numberOf Single (startsAt 24 16) empty
     ∷ numberOf Paired (startsAt 16 24) empty
+    ∷ []
+
+-- ---- the numbers of parts in their order: each comes before those after it, wherever their pairs stand
+
+abbrev partsNumbers : List ℕ
+partsNumbers =
+    (parts (1 ∷ []) [] 0 [] (three (replicate 15 0) (area 16 []) (area 16 []))) .answer .number
+    ∷ (parts (1 ∷ []) [] 0 [] (behind 0 5)) .answer .number
+    ∷ (parts (replicate 1025 0) [] 0 [] nine) .answer .number
+    ∷ (parts (replicate 1025 0) (replicate 1025 0) 0 [] nine) .answer .number
+    ∷ (parts (2 ∷ []) (2 ∷ []) 10 [] nine) .answer .number
+    ∷ (parts (3 ∷ 2 ∷ []) (3 ∷ 0 ∷ []) 8 [] nine) .answer .number
+    ∷ (parts (8 ∷ 4 ∷ 3 ∷ []) (7 ∷ 2 ∷ 3 ∷ []) 8 [] nine) .answer .number
+    ∷ (parts (8 ∷ 8 ∷ []) (3 ∷ 2 ∷ []) 8 [] nine) .answer .number
+    ∷ (parts (8 ∷ 8 ∷ []) (2 ∷ 2 ∷ []) 8 [] nine) .answer .number
+    ∷ (parts composites components 8 (replicate 4 6) nine) .answer .number
     ∷ []
 
 -- ---- where the list ends, after the numbers before and before the records: 13 where a batch carries on, as there is no room for it
@@ -264,9 +291,16 @@ pub record Computed : Type 0 where
   -- an end that is not saturated
   locates-high : holds (wordsFor Paired high) (2 ^ 64 - 1) 1025 ≡ true
   locates-plain : crossing (wordsFor Paired high) (2 ^ 64 - 1) 1025 ≡ located 1025 1 0
+  -- through others, each one time; directly; nothing
+  composes : parts composites components 8 (replicate 6 6) nine ≡ record { answer = answer 0 5; buffer = 1 ∷ 2 ∷ 3 ∷ 5 ∷ 7 ∷ 6 ∷ []; areas = nine }
+  composes-directly : needed composites components 9 ≡ 4 ∷ []
+  composes-nothing : needed composites components 4 ≡ []
+  composes-in-order : partsNumbers ≡ 1 ∷ 6 ∷ 7 ∷ 15 ∷ 27 ∷ 27 ∷ 28 ∷ 29 ∷ 29 ∷ 16 ∷ []
+  -- after a truncation the same lists are turned away
+  composes-no-more : (parts composites components 8 (replicate 6 6) ((call Paired 3 (truncate 8) nine) .areas)) .answer ≡ answer 27 0
 
 pub computed : Computed
-unfolding number bytes numberAt store answer counted storeLength storePast pieces fill published stridesRefusal slot needsRow inline slotAt checkpointRule row rowNumber rowValue rowList ascending lastNumber rowsUpTo rowFor hasRow lookup slotValue matches cuts cutFor sizes count valueOf bodyAfter spanAfter zipped entries uneven spanless breaks entryRefusal entriesRefusal startRefusal endPast batchRefusal table step run differing truncatePlaces nextRow holdsNext cutRule ruledCount ruled openPlaces ragged openRefusal stores anyStores settled checkpoint gather rowOf checkpointOf staged newEnd newEnds appendPlaces sumAfter allAfter lookupAt has valueIn valueAt stridesAfter spansAfter checkpointAt windowEnd lookedAt within rowMissing anyMissing words wordsFor answered found bodyRead spanRead endRead bodyEndAfter spanEndAfter checkpointSound rowFits rowWanted rowSound rowsSound sound unlessRefused tooSmall unread isOpening refusal places value lent buffer areasAfter call createPlaces create audit flatten firstAfter wholeRefusal holds crossing spanAmong spanAt
+unfolding number bytes numberAt store answer counted storeLength storePast pieces fill published stridesRefusal slot needsRow inline slotAt checkpointRule row rowNumber rowValue rowList ascending lastNumber rowsUpTo rowFor hasRow lookup slotValue matches cuts cutFor sizes count valueOf bodyAfter spanAfter zipped entries uneven spanless breaks entryRefusal entriesRefusal startRefusal endPast batchRefusal table step run differing truncatePlaces nextRow holdsNext cutRule ruledCount ruled openPlaces ragged openRefusal stores anyStores settled checkpoint gather rowOf checkpointOf staged newEnd newEnds appendPlaces sumAfter allAfter lookupAt has valueIn valueAt stridesAfter spansAfter checkpointAt windowEnd lookedAt within rowMissing anyMissing words wordsFor answered found bodyRead spanRead endRead bodyEndAfter spanEndAfter checkpointSound rowFits rowWanted rowSound rowsSound sound unlessRefused tooSmall unread isOpening refusal places value lent buffer areasAfter call createPlaces create audit flatten firstAfter wholeRefusal holds crossing spanAmong spanAt someBelow thoseBelow reaches needed strange comesBefore misplaced firstFault pairsRefusal partsRefusal written callRefusal parts
 computed = record {
   refusals = refl;
   ordered = refl;
@@ -323,4 +357,9 @@ computed = record {
   locates-on = refl;
   locates-high = refl;
   locates-plain = refl;
+  composes = refl;
+  composes-directly = refl;
+  composes-nothing = refl;
+  composes-in-order = refl;
+  composes-no-more = refl;
 }

@@ -24,8 +24,9 @@ use Rattle.loc_calls.specs.Stores.{Place, keep, slotLength, rowLength, c
 use Rattle.loc_calls.specs.Reading.{lookupAt, valueAt, stridesAfter, spansAfter, checkpointAt, windowEnd, rowMissing, anyMissing, wordsFor, bodyRead, spanRead, endRead}
 use Rattle.loc_calls.specs.Audit.{bodyEndAfter, spanEndAfter, checkpointSound, rowSound, rowsSound, sound}
 use Rattle.loc_calls.specs.SpanAt.{spanAmong, spanAt, spanAtOutcome}
+use Rattle.loc_calls.specs.Parts.{callRefusal, parts}
 use Rattle.loc_calls.specs.Calls.{unlessRefused, tooSmall, firstRefusal, wholeRefusal, unread, refusal, places, buffer, areasAfter, call, createPlaces, create, audit}
-use Rattle.loc_calls.specs.Guarantees.{AnyCall, indexCall, creation, auditing, locating, outcome, SameFrom8, SameOutcome, Unread, FirstBytesUnread, Unwritten, FirstBytesUnwritten}
+use Rattle.loc_calls.specs.Guarantees.{AnyCall, indexCall, creation, auditing, locating, composing, outcome, SameFrom8, SameOutcome, Unread, FirstBytesUnread, Unwritten, FirstBytesUnwritten}
 
 -- ---- one area
 
@@ -97,27 +98,27 @@ module _ {xs ys : Bytes} (h : Same xs ys) where
 
 -- ---- three areas
 
-pub record Parts (a b : Areas) : Type 0 where
+pub record AllSame (a b : Areas) : Type 0 where
   slots : Same (a .slots) (b .slots)
   rows : Same (a .rows) (b .rows)
   checkpoints : Same (a .checkpoints) (b .checkpoints)
 
-pub parts : {a b : Areas} → SameFrom8 a b → Parts a b
+pub all-same : {a b : Areas} → SameFrom8 a b → AllSame a b
 unfolding sizes
-parts h = record {
+all-same h = record {
   slots = same _ _ (ap (λ (x : Three ℕ). x .slots) (h .size)) (ap (λ (x : Areas). x .slots) (h .rest));
   rows = same _ _ (ap (λ (x : Three ℕ). x .rows) (h .size)) (ap (λ (x : Areas). x .rows) (h .rest));
   checkpoints = same _ _ (ap (λ (x : Three ℕ). x .checkpoints) (h .size)) (ap (λ (x : Areas). x .checkpoints) (h .rest));
 }
 
-same-sizes : {a b : Areas} → Parts a b → sizes a ≡ sizes b
+same-sizes : {a b : Areas} → AllSame a b → sizes a ≡ sizes b
 unfolding sizes
 same-sizes h = rw (h .slots .size, h .rows .size, h .checkpoints .size) refl
 
-whole : {a b : Areas} → Parts a b → SameFrom8 a b
+whole : {a b : Areas} → AllSame a b → SameFrom8 a b
 whole h = record { size = same-sizes h; rest = rw (from-8 (h .slots), from-8 (h .rows), from-8 (h .checkpoints)) refl }
 
-step-same : {a b : Areas} (p : Place) → Parts a b → Parts (step p a) (step p b)
+step-same : {a b : Areas} (p : Place) → AllSame a b → AllSame (step p a) (step p b)
 unfolding step
 step-same keep h = h
 step-same (slotLength v) h = record { slots = length-same (h .slots) v; rows = h .rows; checkpoints = h .checkpoints }
@@ -129,24 +130,24 @@ step-same (write bs) h = record {
   checkpoints = past-same (h .checkpoints) (bs .checkpoints);
 }
 
-run-same : {a b : Areas} (s : ℕ) (ps : List Place) → Parts a b → Parts (run s ps a) (run s ps b)
+run-same : {a b : Areas} (s : ℕ) (ps : List Place) → AllSame a b → AllSame (run s ps a) (run s ps b)
 unfolding run
 run-same zero ps h = h
 run-same (suc s) [] h = h
 run-same (suc s) (p ∷ ps) h = run-same s ps (step-same p h)
 
-unless-same : {a b c d : Areas} (n : ℕ) → Parts c d → Parts a b → Parts (unlessRefused n c a) (unlessRefused n d b)
+unless-same : {a b c d : Areas} (n : ℕ) → AllSame c d → AllSame a b → AllSame (unlessRefused n c a) (unlessRefused n d b)
 unfolding unlessRefused
 unless-same zero new old = new
 unless-same (suc n) new old = old
 
 -- ---- what a call takes from the areas
 
-small-same : {a b : Areas} → Parts a b → tooSmall a ≡ tooSmall b
+small-same : {a b : Areas} → AllSame a b → tooSmall a ≡ tooSmall b
 unfolding tooSmall
 small-same h = rw (h .slots .size, h .rows .size, h .checkpoints .size) refl
 
-module _ (k : Kind) {a b : Areas} (h : Parts a b) where
+module _ (k : Kind) {a b : Areas} (h : AllSame a b) where
   pub count-same : count a ≡ count b
   unfolding count fill
   count-same = rw (counted-same (h .slots)) refl
@@ -163,7 +164,7 @@ module _ (k : Kind) {a b : Areas} (h : Parts a b) where
   unfolding ruledCount fill
   ruledCount-same = rw (count-same, counted-same (h .checkpoints)) refl
 
-  ruled-same : Parts (ruled k a) (ruled k b)
+  ruled-same : AllSame (ruled k a) (ruled k b)
   unfolding ruled
   ruled-same = rw (ruledCount-same, truncate-same (ruledCount k b)) (run-same 3 (truncatePlaces k (ruledCount k b) b) h)
 
@@ -171,7 +172,7 @@ module _ (k : Kind) {a b : Areas} (h : Parts a b) where
   unfolding cutRule holdsNext cutFor cuts
   cut-same = rw (next-same (h .rows) k, counted-same (h .rows), h .rows .size, rows-same, count-same, slot-same (h .slots)) refl
 
-module _ (k : Kind) {a b : Areas} (h : Parts a b) where
+module _ (k : Kind) {a b : Areas} (h : AllSame a b) where
   open-same : openPlaces k a ≡ openPlaces k b
   unfolding openPlaces
   open-same = rw (cut-same k (ruled-same k h), truncate-same k (ruled-same k h) (cutRule k (ruled k b)), ruledCount-same k h, truncate-same k h (ruledCount k b)) refl
@@ -255,16 +256,16 @@ module _ (k : Kind) {a b : Areas} (h : Parts a b) where
   places-same (truncate w) = truncate-same k h w
   places-same (read ids out) = refl
 
-  after-same : (s : ℕ) (c : Call) → Parts (areasAfter k s c a) (areasAfter k s c b)
+  after-same : (s : ℕ) (c : Call) → AllSame (areasAfter k s c a) (areasAfter k s c b)
   unfolding areasAfter
   after-same s c = rw (refusal-same c, places-same c) (unless-same (refusal k c b) (run-same s (places k c b) h) h)
 
-located-same : {a b : Areas} → Parts a b → (x : ℕ) → spanAt a x ≡ spanAt b x
+located-same : {a b : Areas} → AllSame a b → (x : ℕ) → spanAt a x ≡ spanAt b x
 unfolding spanAt wholeRefusal spanAmong
 located-same h x = rw (first-same Paired h, count-same Paired h, lookup-same Paired h, words-same Paired h) refl
 
-outcome-same : (c : AnyCall) {a b : Areas} → Parts a b → SameOutcome (outcome c a) (outcome c b)
-unfolding outcome call create audit spanAtOutcome
+outcome-same : (c : AnyCall) {a b : Areas} → AllSame a b → SameOutcome (outcome c a) (outcome c b)
+unfolding outcome call create audit spanAtOutcome parts callRefusal
 outcome-same (indexCall k s c) h = record {
   answer = rw (refusal-same k h c, count-same k (after-same k h s c)) refl;
   buffer = rw (refusal-same k h c, words-same k h) refl;
@@ -277,10 +278,11 @@ outcome-same creation {b = b} h = record {
 }
 outcome-same (auditing k) h = record { answer = rw (small-same h, settled-same k h, sound-same k h) refl; buffer = refl; areas = whole h }
 outcome-same (locating x) h = record { answer = rw (located-same h x) refl; buffer = rw (located-same h x) refl; areas = whole h }
+outcome-same (composing cs ps x out) h = record { answer = rw (first-same Paired h, count-same Paired h) refl; buffer = rw (first-same Paired h, count-same Paired h) refl; areas = whole h }
 
 pub first-bytes-unread : FirstBytesUnread
 unfolding FirstBytesUnread Unread
-first-bytes-unread c a b h = outcome-same c (parts h)
+first-bytes-unread c a b h = outcome-same c (all-same h)
 
 -- ---- what a call stores
 
@@ -313,8 +315,9 @@ kept-unless zero d a h = h
 kept-unless (suc n) d a h = refl
 
 pub first-bytes-unwritten : FirstBytesUnwritten
-unfolding FirstBytesUnwritten Unwritten outcome call areasAfter create audit spanAtOutcome
+unfolding FirstBytesUnwritten Unwritten outcome call areasAfter create audit spanAtOutcome parts
 first-bytes-unwritten (indexCall k s c) a = kept-unless (refusal k c a) (run s (places k c a) a) a (kept-run s (places k c a) a)
 first-bytes-unwritten creation a = kept-unless (refuse (tooSmall a) 1) (run 3 createPlaces a) a (kept-run 3 createPlaces a)
 first-bytes-unwritten (auditing k) a = refl
 first-bytes-unwritten (locating x) a = refl
+first-bytes-unwritten (composing cs ps x out) a = refl

@@ -15,4 +15,6 @@ pub mod Ends
 pub mod Audited
 pub mod Lowest
 pub mod Located
+pub mod Members
+pub mod Needed
 pub mod Examples

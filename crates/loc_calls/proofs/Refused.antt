@@ -6,7 +6,7 @@ use mathlib.Core.Bool.{Bool, true, false, cond, not, _&&_}
 use mathlib.Core.List.{List, [], _∷_}
 use native.Mathlib.Omega.{arith}
 use lib.Dec.{leb, ltb, eqb}
-use lib.ListN.{length}
+use lib.ListN.{length, getD}
 use borrow.Author.Tests.{leb-true}
 use Rattle.loc_leaf.specs.declared.Kind.{Kind}
 use Rattle.loc_leaf.specs.declared.Kind.the-variants.{Paired}
@@ -21,11 +21,12 @@ use Rattle.loc_calls.specs.Areas.{Three, Areas, sizes, count}
 use Rattle.loc_calls.specs.Table.{saturated, Call, opening, append, truncate, read, Entry, bodyAfter, spanAfter, entries, wordWidth, uneven, spanless, breaks, entryRefusal, entriesRefusal, ListEnd, startRefusal, endPast, batchRefusal, table}
 use Rattle.loc_calls.specs.Stores.{ragged, openRefusal, settled, newEnds}
 use Rattle.loc_calls.specs.declared.SpanAt.{SpanAt}
-use Rattle.loc_calls.specs.Reading.{firstAfter, complete, wordsFor, endRead}
+use Rattle.loc_calls.specs.Reading.{firstAfter, complete, within, wordsFor, endRead}
 use Rattle.loc_calls.specs.Calls.{unlessRefused, tooSmall, firstRefusal, wholeRefusal, unread, isOpening, tableOf, refusal, call, create, audit}
 use Rattle.loc_calls.specs.SpanAt.{holds, refusedBy, crossing, spanAmong, spanAt, spanAtOutcome}
+use Rattle.loc_calls.specs.Parts.{someBelow, strange, misplaced, needed, firstFault, pairsRefusal, partsRefusal, callRefusal, parts}
 use Rattle.loc_calls.specs.Promises.{Stored}
-use Rattle.loc_calls.specs.Guarantees.{indexCall, creation, auditing, locating, outcome, lentTo, largest, InTable, NumbersOfTable, LeavesAll, RefusalsLeaveAll}
+use Rattle.loc_calls.specs.Guarantees.{indexCall, creation, auditing, locating, composing, outcome, lentTo, largest, InTable, NumbersOfTable, LeavesAll, RefusalsLeaveAll}
 use Rattle.loc_calls.proofs.Outcomes.{refused}
 
 -- ---- the table's numbers
@@ -136,12 +137,25 @@ located-in a x = go (wholeRefusal Paired a) (firstAfter (holds (wordsFor Paired 
     go zero (suc id) h = omega arith
     go (suc n) id h = h
 
+composed-in : (cs ps : List ℕ) (x : ℕ) (out : List ℕ) (a : Areas) → Numbered (callRefusal a cs ps x out)
+unfolding callRefusal partsRefusal pairsRefusal firstFault
+composed-in cs ps x out a =
+    first (first-in Paired a)
+    (first
+    (first (test 7 (not (eqb (length cs) (length ps))) refl)
+    (first (test 15 (ltb 1024 (length cs)) refl)
+    (first (test 27 (not (within (count a) x)) refl)
+    (first (test 27 (someBelow (λ i. strange (count a) (getD cs i 0) (getD ps i 0)) (length cs)) refl)
+    (first (test 28 (someBelow (λ i. leb (getD cs i 0) (getD ps i 0)) (length cs)) refl) (test 29 (someBelow (misplaced cs ps) (length cs)) refl))))))
+    (test 16 (ltb (length out) (length (needed cs ps x))) refl))
+
 pub numbers-of-table : NumbersOfTable
-unfolding NumbersOfTable InTable outcome call create audit spanAtOutcome
+unfolding NumbersOfTable InTable outcome call create audit spanAtOutcome parts
 numbers-of-table (indexCall k s c) a = rw number-is (refusal-in k c a)
 numbers-of-table creation a = rw number-is (small-in a)
 numbers-of-table (auditing k) a = rw number-is (first-in k a)
 numbers-of-table (locating x) a = rw number-is (located-in a x)
+numbers-of-table (composing cs ps x out) a = rw number-is (composed-in cs ps x out a)
 
 -- ---- refusals
 
@@ -169,7 +183,7 @@ none-located a x = go (wholeRefusal Paired a) (firstAfter (holds (wordsFor Paire
     go (suc n) id h = refl
 
 pub refusals-leave-all : RefusalsLeaveAll
-unfolding RefusalsLeaveAll LeavesAll outcome lentTo call create audit spanAtOutcome
+unfolding RefusalsLeaveAll LeavesAll outcome lentTo call create audit spanAtOutcome parts
 refusals-leave-all (indexCall k s c) a h = record { value = ap (λ (r : Answer). r .value) (sym (left .0)); buffer = kept (refusal k c a) _ _ _ h; areas = sym (left .1) }
   where
     left : Stored (call k s c a) (record { number = refusal k c a; value = 0 }) a
@@ -181,3 +195,4 @@ refusals-leave-all (locating x) a h = record {
   buffer = ap (λ (r : SpanAt). r .«record» ∷ r .index ∷ r .remainder ∷ []) (none-located a x (λ e. h (number-is _ 0 ∙ e)));
   areas = refl;
 }
+refusals-leave-all (composing cs ps x out) a h = record { value = value-0 (callRefusal a cs ps x out) _ h; buffer = kept (callRefusal a cs ps x out) _ _ out h; areas = refl }

@@ -9,34 +9,38 @@ use Rattle.loc_calls.specs.Areas.{each, Areas, sizes}
 use Rattle.loc_calls.specs.Table.{Call}
 use Rattle.loc_calls.specs.Calls.{Outcome, lent, call, create, audit}
 use Rattle.loc_calls.specs.SpanAt.{spanAtOutcome}
+use Rattle.loc_calls.specs.Parts.{parts}
 
 -- ---- every call
 
--- open, append, truncate and read of a kind, at s places; create; audit of a kind; span_at an address
+-- open, append, truncate and read of a kind, at s places; create; audit of a kind; span_at an address; the parts of a record
 pub data AnyCall : Type 0 where
   indexCall : Kind → ℕ → Call → AnyCall
   creation : AnyCall
   auditing : Kind → AnyCall
   locating : ℕ → AnyCall
+  composing : List ℕ → List ℕ → ℕ → List ℕ → AnyCall
 
 unfoldable pub outcome : AnyCall → Areas → Outcome
 outcome (indexCall k s c) a = call k s c a
 outcome creation a = create a
 outcome (auditing k) a = audit k a
 outcome (locating x) a = spanAtOutcome x a
+outcome (composing cs ps x out) a = parts cs ps x out a
 
--- the answer buffer as it was lent: a reading has one, and the three words of span_at begin as 0
+-- the answer buffer as it was lent: a reading has one, as parts has, and the three words of span_at begin as 0
 unfoldable pub lentTo : AnyCall → List ℕ
 lentTo (indexCall k s c) = lent c
 lentTo creation = []
 lentTo (auditing k) = []
 lentTo (locating x) = 0 ∷ 0 ∷ 0 ∷ []
+lentTo (composing cs ps x out) = out
 
 -- ---- numbers and refusals
 
 -- the table's largest number
 abbrev pub largest : ℕ
-largest = 26
+largest = 29
 
 -- the column "Number": a call gives 0 or a number of the table
 unfoldable pub InTable : (Areas → Outcome) → Type 0

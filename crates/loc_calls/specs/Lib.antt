@@ -5,5 +5,6 @@ pub mod Reading
 pub mod Audit
 pub mod Calls
 pub mod SpanAt
+pub mod Parts
 pub mod Promises
 pub mod Guarantees

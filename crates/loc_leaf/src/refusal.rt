@@ -58,6 +58,12 @@ pub const SEED_ZERO: u64 = 25;
 
 pub const TOO_MANY_RECORDS: u64 = 26;
 
+pub const NOT_A_RECORD: u64 = 27;
+
+pub const COMPONENT_NOT_BELOW: u64 = 28;
+
+pub const PAIRS_NOT_ASCENDING: u64 = 29;
+
 // An accepted call's answer.
 pub fn accepted(value: u64) -> Answer
     ensures { λ r. ⌜ r ≡ acceptedWith value ⌝ }

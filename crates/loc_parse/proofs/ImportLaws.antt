@@ -16,7 +16,7 @@ use Rattle.loc_calls.specs.Calls.{unlessRefused, lent, call}
 use Rattle.loc_calls.specs.Promises.{Stored}
 use Rattle.loc_calls.specs.Guarantees.{indexCall, outcome, lentTo, largest, InTable, NumbersOfTable, Refusal, LeavesAll, RefusalsLeaveAll, SameOutcome, Unread, FirstBytesUnread, Unwritten, FirstBytesUnwritten, Guaranteed}
 use Rattle.loc_calls.proofs.Refused.{test, first, first-in, numbers-of-table, refusals-leave-all}
-use Rattle.loc_calls.proofs.FirstBytes.{parts, first-same, count-same, first-bytes-unread, first-bytes-unwritten}
+use Rattle.loc_calls.proofs.FirstBytes.{all-same, first-same, count-same, first-bytes-unread, first-bytes-unwritten}
 use Rattle.loc_parse.specs.declared.Fields.{Fields}
 use Rattle.loc_parse.specs.declared.Line.{Line}
 use Rattle.loc_parse.specs.declared.Line.the-variants.{Whole, Broken}
@@ -104,11 +104,11 @@ module _ (s : ℕ) (xs : List ℕ) where
   unread a b h = go (listingRefusal xs a) refl
     where
       same : listingRefusal xs a ≡ listingRefusal xs b
-      same = unfold listingRefusal in rw (first-same Paired (parts h), count-same Paired (parts h)) refl
+      same = unfold listingRefusal in rw (first-same Paired (all-same h), count-same Paired (all-same h)) refl
 
       go : (n : ℕ) → listingRefusal xs a ≡ n → SameOutcome (appendListing s xs a) (appendListing s xs b)
       go zero e =
-          rw (listing-appended s xs a e, listing-appended s xs b (sym same ∙ e), count-same Paired (parts h))
+          rw (listing-appended s xs a e, listing-appended s xs b (sym same ∙ e), count-same Paired (all-same h))
           (unfold outcome in first-bytes-unread (indexCall Paired s (append ((parsed (count b) xs) .batch))) a b h)
       go (suc n) e = unfold appendListing unlessRefused in rw (e, ← same, e) (record { answer = refl; buffer = refl; areas = h })
 
