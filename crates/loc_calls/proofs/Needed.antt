@@ -13,7 +13,7 @@ use Rattle.loc_leaf.specs.Answers.{refuse, _orElse_}
 use Rattle.loc_leaf.proofs.Booleans.{is?, both-left, both-right, either, or-right, not-true-is-false}
 use Rattle.loc_leaf.proofs.Refusals.{orElse-left, orElse-right, refuse-zero}
 use Rattle.loc_calls.specs.Reading.{within}
-use Rattle.loc_calls.specs.Parts.{someBelow, thoseBelow, PairOf, Needs, direct, through, reaches, needed, strange, comesBefore, misplaced, firstFault, pairsRefusal, member, MembersNeeded, Reached, AnswersAreReached}
+use Rattle.loc_calls.specs.Parts.{someBelow, thoseBelow, PairOf, Needs, direct, through, reaches, needed, strange, comesBefore, misplaced, firstFault, pairsRefusal, InOrder, Fit, member, MembersNeeded, Reached, AnswersAreReached}
 use Rattle.loc_calls.proofs.Members.{Passing, some-found, some-of, none-at, strict-same, those-pass, passing-there, those-strict}
 
 -- ---- chains
@@ -80,18 +80,6 @@ module _ (cs ps : List ℕ) where
         }
 
 -- ---- lists that are not refused
-
--- a composite is at most every later one
-abbrev pub InOrder : List ℕ → Type 0
-InOrder cs = (i j : ℕ) → i ≤ j → j < length cs → getD cs i 0 ≤ getD cs j 0
-
--- lists of one length, of at most 1,024 pairs; components above 0 and below their composites; composites in order
-pub record Fit (cs ps : List ℕ) : Type 0 where
-  pub same : length cs ≡ length ps
-  pub few : length cs ≤ 1024
-  pub some : (i : ℕ) → i < length cs → 0 < getD ps i 0
-  pub below : (i : ℕ) → i < length cs → getD ps i 0 < getD cs i 0
-  pub order : InOrder cs
 
 -- neighbours in order make a list in order
 in-order : (cs : List ℕ) → ((i : ℕ) → i < length cs → getD (0 ∷ cs) i 0 ≤ getD cs i 0) → InOrder cs

@@ -1,6 +1,6 @@
 -- Composites after their parts (document 02, Item 9): the records that a record needs, by pairs of composite and component.
 -- `Needs` is what chains of pairs reach, and `needed` the ascending list of it; a pair is the entries of two lists at one place.
-use Prim.Native.Nat.{ℕ, zero, suc, _<_}
+use Prim.Native.Nat.{ℕ, zero, suc, _≤_, _<_}
 use mathlib.Core.Path.{_≡_}
 use mathlib.Core.Bool.{Bool, true, false, cond, not, _&&_, _||_}
 use mathlib.Core.List.{List, [], _∷_, _++_}
@@ -75,6 +75,18 @@ pairsRefusal n cs ps x =
     orElse refuse (ltb 1024 (length cs)) 15
     orElse refuse (not (within n x)) 27
     orElse firstFault n cs ps (length cs)
+
+-- a composite is at most every later one
+abbrev pub InOrder : List ℕ → Type 0
+InOrder cs = (i j : ℕ) → i ≤ j → j < length cs → getD cs i 0 ≤ getD cs j 0
+
+-- what these leave: lists of one length, of at most 1,024 pairs, with components above 0 and below their composites, and composites in order
+pub record Fit (cs ps : List ℕ) : Type 0 where
+  pub same : length cs ≡ length ps
+  pub few : length cs ≤ 1024
+  pub some : (i : ℕ) → i < length cs → 0 < getD ps i 0
+  pub below : (i : ℕ) → i < length cs → getD ps i 0 < getD cs i 0
+  pub order : InOrder cs
 
 -- 16 last: fewer words than the answer has records
 unfoldable pub partsRefusal : ℕ → List ℕ → List ℕ → ℕ → List ℕ → ℕ

@@ -1,0 +1,3 @@
+pub mod Faults
+pub mod Pass
+pub mod Put

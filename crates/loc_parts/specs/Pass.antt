@@ -1,0 +1,69 @@
+-- The pass over the pairs from the record's last one down to the first: which composites are wanted, and which pairs have a mark.
+-- Then the components in order, each one time.
+use Prim.Native.Nat.{ℕ, suc, _-_, _%_, _≤_, _<_}
+use mathlib.Core.Path.{_≡_}
+use mathlib.Core.Logic.{_⊎_}
+use mathlib.Core.Bool.{Bool, true, false, cond}
+use mathlib.Core.List.{List, [], _∷_}
+use lib.Dec.{eqb}
+use lib.ListN.{length, getD}
+use Rattle.loc_calls.specs.Parts.{Needs, member}
+
+-- ---- a composite's pairs
+
+-- place r is the last of those below n whose composite is at most y, or 0
+pub record LastTo (cs : List ℕ) (n y r : ℕ) : Type 0 where
+  pub inside : r < n
+  pub low : 0 < r → getD cs r 0 ≤ y
+  pub high : (j : ℕ) → r < j → j < n → y < getD cs j 0
+
+-- one past the last of the first n pairs that has composite y; 0 where none has it
+pub record PairsEnd (cs : List ℕ) (n y r : ℕ) : Type 0 where
+  pub inside : r ≤ n
+  pub own : 0 < r → getD cs (r - 1) 0 ≡ y
+  pub past : (j : ℕ) → r ≤ j → j < n → getD cs j 0 ≡ y → ⊥
+
+-- place j has a mark
+abbrev pub marked : List ℕ → ℕ → Type 0
+marked marks j = getD marks j 0 ≡ 1
+
+-- of the first n pairs, none after place j has its composite
+abbrev pub LastOwn : List ℕ → ℕ → ℕ → Type 0
+LastOwn cs n j = suc j < n → getD cs (suc j) 0 ≡ getD cs j 0 → ⊥
+
+-- the marks of old, and one at the last of the first n pairs that has composite y, if there is one
+pub record Marked (cs : List ℕ) (n y : ℕ) (old new : List ℕ) : Type 0 where
+  pub own : (j : ℕ) → marked new j → marked old j ⊎ (getD cs j 0 ≡ y)
+  pub kept : (j : ℕ) → marked old j → marked new j
+  pub last : (j : ℕ) → j < n → getD cs j 0 ≡ y → LastOwn cs n j → marked new j
+
+-- ---- components that were met
+
+-- p is not new only where it stands in the table; the new table has what the old one has, or p
+pub record Entered (p : ℕ) (old new : List ℕ) (isNew : Bool) : Type 0 where
+  pub there : isNew ≡ false → getD old (p % 1021) 0 ≡ p
+  pub entries : (h : ℕ) → (getD new h 0 ≡ p) ⊎ (getD new h 0 ≡ getD old h 0)
+
+-- ---- the pass
+
+-- c is the record x, or one of the components so far
+abbrev pub Wanted : ℕ → List ℕ → ℕ → Type 0
+Wanted x found c = (c ≡ x) ⊎ (member c found ≡ true)
+
+-- the pairs from place i on are passed: the components found are needed, and those of wanted composites are found;
+-- a pair with a mark has a wanted composite, and of the pairs before i that have one wanted composite the last has a mark;
+-- what stands in the table is found
+pub record Walking (cs ps : List ℕ) (x : ℕ) (marks seen found : List ℕ) (i : ℕ) : Type 0 where
+  pub inside : i ≤ length cs
+  pub chained : (y : ℕ) → member y found ≡ true → Needs cs ps x y
+  pub closed : (j : ℕ) → i ≤ j → j < length cs → Wanted x found (getD cs j 0) → member (getD ps j 0) found ≡ true
+  pub sound : (j : ℕ) → marked marks j → Wanted x found (getD cs j 0)
+  pub full : (j : ℕ) → j < i → Wanted x found (getD cs j 0) → LastOwn cs i j → marked marks j
+  pub met : (h : ℕ) → 0 < getD seen h 0 → member (getD seen h 0) found ≡ true
+
+-- ---- each one time
+
+-- of a list in order, those that differ from the one before, which is z before the first
+unfoldable pub distinct : ℕ → List ℕ → List ℕ
+distinct z [] = []
+distinct z (y ∷ l) = cond (eqb y z) (distinct z l) (y ∷ distinct y l)
