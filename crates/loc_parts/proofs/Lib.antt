@@ -1,1 +1,4 @@
 pub mod FaultLaws
+pub mod PairLaws
+pub mod WalkLaws
+pub mod DistinctLaws

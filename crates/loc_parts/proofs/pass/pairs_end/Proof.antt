@@ -1,0 +1,59 @@
+-- `loc_parts::pass::pairs_end` meets its contract.
+use borrow.Author.Needs.{needs}
+use Rattle.loc_parts.proofs.PairLaws.{end-none, end-low, end-all, end-found, end-lacking}
+use Rattle.loc_parts.proofs.pass.pairs_end.Statement.{statement}
+use Rattle.loc_parts.proofs.pass.pairs_end.Tie as tie
+use Rattle.loc_parts.proofs.pass.last_to.Reads as last-to-reads
+
+returns : tie.Need-returns
+returns c = search needs
+
+sub-last : tie.Need-sub-last
+sub-last c = search needs
+
+mul-last : tie.Need-mul-last
+mul-last c = search needs
+
+shared-slice-read-last : tie.Need-shared-slice-read-last
+shared-slice-read-last c = search needs
+
+returns-2 : tie.Need-returns-2
+returns-2 c = search (needs, end-low)
+
+returns-3 : tie.Need-returns-3
+returns-3 c = search needs
+
+last-to-requires : tie.Need-last-to-requires
+last-to-requires c κs = search needs
+
+mul-if4 : tie.Need-mul-if4
+mul-if4 c = search needs
+
+shared-slice-read-if4 : tie.Need-shared-slice-read-if4
+shared-slice-read-if4 c = search needs
+
+add-result : tie.Need-add-result
+add-result c = search needs
+
+returns-4 : tie.Need-returns-4
+returns-4 c = search (needs, end-found)
+
+returns-5 : tie.Need-returns-5
+returns-5 c = search (needs, end-lacking)
+
+pub pairs-end-spec : {M : Type 1} → statement M
+pairs-end-spec =
+    tie.close
+    (tie.spec
+    returns
+    sub-last
+    mul-last
+    shared-slice-read-last
+    returns-2
+    returns-3
+    last-to-requires
+    mul-if4
+    shared-slice-read-if4
+    add-result
+    returns-4
+    returns-5)
