@@ -12,6 +12,7 @@ pub mod judge;
 pub mod listing;
 pub mod load;
 pub mod named;
+pub mod parts;
 pub mod pick;
 pub mod port;
 pub mod span_at;

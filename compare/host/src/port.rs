@@ -45,6 +45,11 @@ mod c {
             s: *const u8, sn: usize, r: *const u8, rn: usize, c: *const u8, cn: usize,
             address: u64, record: *mut u64, index: *mut u64, remainder: *mut u64,
         ) -> u64;
+        pub fn create_loc_parts(
+            s: *const u8, sn: usize, r: *const u8, rn: usize, c: *const u8, cn: usize,
+            composites: *const u64, composites_n: usize, components: *const u64, components_n: usize,
+            record: u64, answers: *mut u64, an: usize, value: *mut u64,
+        ) -> u64;
         pub fn delta_loc_append(
             s: *mut u8, sn: usize, r: *mut u8, rn: usize, c: *mut u8, cn: usize,
             starts: *const u64, starts_n: usize, lens: *const u64, lens_n: usize,
@@ -307,4 +312,29 @@ pub fn span_at(areas: &Areas, address: u64) -> Crossing {
         )
     };
     (number, [record, index, remainder])
+}
+
+/// What a record of a paired index needs, by pairs of composite and component.
+pub fn parts(areas: &Areas, (composites, components): (&[u64], &[u64]), record: u64, answers: &mut [u64]) -> Answer {
+    let [s, r, k] = areas;
+    let mut value = UNSET;
+    let number = unsafe {
+        c::create_loc_parts(
+            s.as_ptr(),
+            s.len(),
+            r.as_ptr(),
+            r.len(),
+            k.as_ptr(),
+            k.len(),
+            composites.as_ptr(),
+            composites.len(),
+            components.as_ptr(),
+            components.len(),
+            record,
+            answers.as_mut_ptr(),
+            answers.len(),
+            &mut value,
+        )
+    };
+    (number, value)
 }

@@ -2,10 +2,10 @@
 //! A run in which some number never came is reported as incomplete.
 use crate::areas::Kind;
 use crate::call::{What, WHATS};
-use crate::port::Crossing;
+use crate::port::{Answer, Crossing};
 
 /// 0 and the numbers of the table.
-pub const NUMBERS: usize = 27;
+pub const NUMBERS: usize = 30;
 
 #[derive(Default)]
 pub struct Tally {
@@ -27,6 +27,9 @@ pub struct Tally {
     /// How often each number came from a search for an address, and how often an index and a remainder that are both not 0.
     addresses: [u64; NUMBERS],
     inner: u64,
+    /// How often each number came from pairs, and how many records they gave.
+    parts: [u64; NUMBERS],
+    needed: u64,
     /// How often each number came from an input of the load's program.
     loads: [u64; NUMBERS],
 }
@@ -42,6 +45,9 @@ const OF_A_LISTING: [usize; 16] = [0, 1, 6, 8, 9, 10, 11, 12, 13, 17, 18, 19, 20
 
 /// What a search for an address can give.
 const OF_AN_ADDRESS: [usize; 5] = [0, 1, 6, 17, 21];
+
+/// What pairs can give.
+const OF_PAIRS: [usize; 9] = [0, 1, 6, 7, 15, 16, 27, 28, 29];
 
 /// What an input of the load's program can give.
 const OF_A_LOAD: [usize; 4] = [0, 18, 25, 26];
@@ -74,6 +80,11 @@ impl Tally {
     pub fn note_address(&mut self, (number, [_, index, remainder]): Crossing) {
         self.addresses[number as usize] += 1;
         self.inner += u64::from(index != 0 && remainder != 0);
+    }
+
+    pub fn note_parts(&mut self, (number, value): Answer) {
+        self.parts[number as usize] += 1;
+        self.needed += value;
     }
 
     pub fn note_load(&mut self, number: u64) {
@@ -136,6 +147,10 @@ impl Tally {
         if self.inner == 0 {
             list.push("address with an index and a remainder".into());
         }
+        list.extend(OF_PAIRS.iter().filter(|&&n| self.parts[n] == 0).map(|n| format!("pairs {n}")));
+        if self.needed == 0 {
+            list.push("pairs of which a record needs one".into());
+        }
         list.extend(OF_A_LOAD.iter().filter(|&&n| self.loads[n] == 0).map(|n| format!("load {n}")));
         list
     }
@@ -171,6 +186,16 @@ impl Tally {
             self.addresses.iter().sum::<u64>(),
             each(&OF_AN_ADDRESS, &self.addresses),
             self.inner
+        )
+    }
+
+    /// The pairs, which the original does not take.
+    pub fn parts(&self) -> String {
+        format!(
+            "pairs: {} calls agree with a search breadth first ({}), which finds {} records",
+            self.parts.iter().sum::<u64>(),
+            each(&OF_PAIRS, &self.parts),
+            self.needed
         )
     }
 

@@ -6,6 +6,7 @@ ghost use Rattle.loc_calls.specs.Areas.{areas};
 ghost use Rattle.loc_calls.specs.Table.{batch, opening, append, truncate, read};
 ghost use Rattle.loc_calls.specs.Calls.{call, create, audit};
 ghost use Rattle.loc_calls.specs.SpanAt.{spanAt};
+ghost use Rattle.loc_calls.specs.Parts.{parts};
 ghost use Rattle.loc_calls.specs.Promises.{Stored, Read};
 ghost use Rattle.loc_parse.specs.Import.{appendListing};
 ghost use Rattle.loc_exports.specs.Given.{given, givenSpan};
@@ -237,5 +238,32 @@ pub extern "C" fn create_loc_span_at(
     *record = a.record;
     *index = a.index;
     *remainder = a.remainder;
+    a.number
+}
+
+// What a record needs by pairs: 1, 6; 7, 15; 27, 28, 29; 16.
+#[no_mangle]
+pub extern "C" fn create_loc_parts(
+    slots: &[u8],
+    rows: &[u8],
+    checkpoints: &[u8],
+    composites: &[u64],
+    components: &[u64],
+    record: u64,
+    answers: &mut [u64],
+    value: &mut u64,
+) -> u64
+    ensures { λ r. ⌜ Read (parts (now (composites .entry)) (now (components .entry)) «record» (now (answers .entry)) (areas (now (slots .entry)) (now (rows .entry)) (now (checkpoints .entry)))) (given r (now (value .exit))) (now (answers .exit)) ⌝ }
+{
+    let a = loc_index::create_loc::parts(
+        slots,
+        rows,
+        checkpoints,
+        composites,
+        components,
+        record,
+        answers,
+    );
+    *value = a.value;
     a.number
 }

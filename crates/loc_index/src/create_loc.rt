@@ -6,6 +6,7 @@ ghost use Rattle.loc_calls.specs.Areas.{areas};
 ghost use Rattle.loc_calls.specs.Table.{batch, opening, append, truncate, read};
 ghost use Rattle.loc_calls.specs.Calls.{call, create, audit};
 ghost use Rattle.loc_calls.specs.SpanAt.{spanAt};
+ghost use Rattle.loc_calls.specs.Parts.{parts};
 ghost use Rattle.loc_calls.specs.Promises.{Stored, Read};
 ghost use Rattle.loc_parse.specs.Import.{appendListing};
 use loc_calls::SpanAt;
@@ -160,4 +161,27 @@ pub fn span_at(slots: &[u8], rows: &[u8], checkpoints: &[u8], address: u64) -> S
     ensures { λ r. ⌜ r ≡ spanAt (areas (now (slots .entry)) (now (rows .entry)) (now (checkpoints .entry))) address ⌝ }
 {
     loc_span_at::windows::span_at(slots, rows, checkpoints, address)
+}
+
+// Refuses by 1, 6; 7, 15; 27, 28, 29; 16. The records that a record needs by pairs of composite and component; the value is how many.
+pub fn parts(
+    slots: &[u8],
+    rows: &[u8],
+    checkpoints: &[u8],
+    composites: &[u64],
+    components: &[u64],
+    record: u64,
+    answers: &mut [u64],
+) -> Answer
+    ensures { λ r. ⌜ Read (parts (now (composites .entry)) (now (components .entry)) «record» (now (answers .entry)) (areas (now (slots .entry)) (now (rows .entry)) (now (checkpoints .entry)))) r (now (answers .exit)) ⌝ }
+{
+    loc_parts::call::parts(
+        slots,
+        rows,
+        checkpoints,
+        composites,
+        components,
+        record,
+        answers,
+    )
 }

@@ -2,10 +2,10 @@
 //! compare [--seed N] [--histories N | --seconds N] [--one SEED]
 use host::judge::Folder;
 use host::tally::Tally;
-use host::{history, listing, load, named, span_at, sweep};
+use host::{history, listing, load, named, parts, span_at, sweep};
 use std::time::{Duration, Instant};
 
-/// Once in so many histories the listings of its seed are read back too, its addresses are looked for and its load is made.
+/// Once in so many histories the listings of its seed are read back too, its addresses are looked for, its pairs are searched and its load is made.
 const OTHERS_ONE_IN: u64 = 25;
 
 fn main() {
@@ -33,6 +33,8 @@ fn main() {
         listing::named(&folder, &mut tally).unwrap_or_else(|(message, steps)| differs(&folder, None, &message, &steps));
     let addresses =
         span_at::named(&folder, &mut tally).unwrap_or_else(|(message, steps)| differs(&folder, None, &message, &steps));
+    let pairs =
+        parts::named(&folder, &mut tally).unwrap_or_else(|(message, steps)| differs(&folder, None, &message, &steps));
     let inputs =
         load::named(&folder, &mut tally).unwrap_or_else(|(message, steps)| differs(&folder, None, &message, &steps));
     let worlds = match one {
@@ -60,6 +62,7 @@ fn main() {
             if with_others {
                 listing::run(this, &folder, &mut tally)?;
                 span_at::run(this, &folder, &mut tally)?;
+                parts::run(this, &folder, &mut tally)?;
                 load::run(this, &folder, &mut tally)?;
             }
             Ok(())
@@ -70,13 +73,14 @@ fn main() {
             Err(_) => differs(&folder, Some(this), "one side panicked", &[]),
         }
         if one.is_some() {
-            println!("history, listings, addresses and load of seed {this}: no difference");
+            println!("history, listings, addresses, pairs and load of seed {this}: no difference");
             return;
         }
     }
     print!("{}", tally.numbers());
     println!("{}", tally.listings());
     println!("{}", tally.addresses());
+    println!("{}", tally.parts());
     println!("{}", tally.loads());
     let unseen = tally.unseen();
     if !unseen.is_empty() {
@@ -84,7 +88,7 @@ fn main() {
         drop(folder);
         std::process::exit(1);
     }
-    let named = named + texts + addresses + inputs;
+    let named = named + texts + addresses + pairs + inputs;
     println!("{}; {named} named cases and {worlds} small worlds; {} s", tally.summary(), begun.elapsed().as_secs());
 }
 
