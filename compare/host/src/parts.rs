@@ -66,7 +66,14 @@ fn counted(areas: &Areas, folder: &Folder) -> Result<u64, u64> {
 }
 
 /// A call on these areas: number, value and every word are as plain Rust has them, and every byte stays as it was.
-fn check(areas: &Areas, count: Result<u64, u64>, pairs: &Pairs, record: u64, words: usize, tally: &mut Tally) -> Outcome<Answer> {
+fn check(
+    areas: &Areas,
+    count: Result<u64, u64>,
+    pairs: &Pairs,
+    record: u64,
+    words: usize,
+    tally: &mut Tally,
+) -> Outcome<Answer> {
     let pairs = (&pairs.0[..], &pairs.1[..]);
     let mine = areas.clone();
     let (mut given, mut wanted) = (vec![GARBAGE; words], vec![GARBAGE; words]);
@@ -76,7 +83,9 @@ fn check(areas: &Areas, count: Result<u64, u64>, pairs: &Pairs, record: u64, wor
         Err(number) => (number, 0),
     };
     if (answer, &given) != (said, &wanted) {
-        return Err(format!("{record} of {pairs:?}, {words} words: port {answer:?} {given:?}, wanted {said:?} {wanted:?}"));
+        return Err(format!(
+            "{record} of {pairs:?}, {words} words: port {answer:?} {given:?}, wanted {said:?} {wanted:?}"
+        ));
     }
     if mine != *areas {
         return Err(format!("{record} of {pairs:?}: the port changed an area"));

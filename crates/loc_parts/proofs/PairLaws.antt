@@ -1,69 +1,124 @@
--- The search by halves for the pairs of a composite, the mark at the last of them, and the table of components.
--- `Halving` is the search's invariant.
-use Prim.Native.Nat.{ℕ, zero, suc, _+_, _-_, _*_, _/_, _%_, _≤_, _<_}
+-- The search for the pairs of a composite, the mark at the last of them, and the table of components.
+-- `Search` is what the search holds: the pairs that are left.
+use Prim.Native.Nat.{ℕ, zero, suc, _+_, _-_, _*_, _/_, _≤_, _<_}
 use mathlib.Core.Path.{_≡_, refl, sym, ap, _∙_, subst}
 use mathlib.Core.Logic.{_⊎_, inl, inr}
-use mathlib.Core.Bool.{Bool, true, false, cond, true≢false}
+use mathlib.Core.Bool.{Bool, true, false, cond, false≢true, true≢false}
 use mathlib.Core.List.{List}
 use native.Mathlib.Omega.{arith}
 use lib.Dec.{leb, ltb, eqb}
 use lib.ListN.{length, getD, set}
 use lib.Seq.{getD-set-same, getD-set-other}
-use borrow.Author.Tests.{ltb-true, ltb-false, leb-true, leb-false, eqb-true, eqb-false}
+use borrow.Author.Tests.{ltb-true, ltb-false, leb-true, leb-false, lt-leb, eqb-true, eqb-false}
 use Rattle.loc_leaf.proofs.Booleans.{is?}
 use Rattle.loc_calls.specs.Parts.{InOrder}
 use Rattle.loc_parts.specs.Pass.{LastTo, PairsEnd, marked, LastOwn, Marked, Entered}
 
 -- ---- the search
 
--- of the pairs below n, place `at` or one of those up to `left` after it is the last whose composite is at most y
-pub record Halving (cs : List ℕ) (n y at left : ℕ) : Type 0 where
+-- of the pairs below n, place `at` or one of the `left` - 1 after it is the last whose composite is at most y
+pub record Search (cs : List ℕ) (n y at left : ℕ) : Type 0 where
   pub some : 0 < left
   pub inside : at + left ≤ n
   pub low : 0 < at → getD cs at 0 ≤ y
   pub high : (j : ℕ) → at + left ≤ j → j < n → y < getD cs j 0
 
--- all of h, or nothing
-pub half-or-none : (h : ℕ) {r : ℕ} → r ≤ 1 → h * r ≤ h
-half-or-none h {r = zero} l = omega arith
-half-or-none h {r = suc zero} l = omega arith
-half-or-none h {r = suc (suc r)} l = absurd (omega arith)
+-- q as many times as tests hold
+pub few-times : (q : ℕ) {a b c : ℕ} → a ≤ 1 → b ≤ 1 → c ≤ 1 → (a + b + c) * q ≤ 3 * q
+few-times q {a} {b} {c} l m n = go (a + b + c) (omega arith)
+  where
+    go : (k : ℕ) → k ≤ 3 → k * q ≤ 3 * q
+    go zero h = omega arith
+    go (suc zero) h = omega arith
+    go (suc (suc zero)) h = omega arith
+    go (suc (suc (suc zero))) h = omega arith
+    go (suc (suc (suc (suc k)))) h = absurd (omega arith)
 
 module _ (cs : List ℕ) (n y : ℕ) where
-  pub halving-begins : 0 < n → Halving cs n y 0 n
-  halving-begins h = record { some = h; inside = omega arith; low = λ z. absurd (omega arith); high = λ j g l. absurd (omega arith) }
+  -- 1 where the composite at a place is at most y
+  abbrev pub passes : ℕ → ℕ
+  passes j = cond (leb (getD cs j 0) y) 1 0
 
-  -- r is 1 where the composite half of them further on is at most y, else 0
-  pub halving-next : (at left r : ℕ) → Halving cs n y at left → InOrder cs → n ≤ length cs → 1 < left → r ≡ cond (leb (getD cs (at + left / 2) 0) y) 1 0
-      → Halving cs n y (at + left / 2 * r) (left - left / 2)
-  halving-next at left r w rise fits h e = go (is? (leb (getD cs (at + left / 2) 0) y))
-    where
-      go : (leb (getD cs (at + left / 2) 0) y ≡ true) ⊎ (leb (getD cs (at + left / 2) 0) y ≡ false) → Halving cs n y (at + left / 2 * r) (left - left / 2)
-      go (inl t) =
-          let one : r ≡ 1 = rw t at e in
-          let on : at + left / 2 * r ≡ at + left / 2 = rw one (omega arith) in
-          rw on (record {
-            some = omega arith;
-            inside = omega (arith, w .inside);
-            low = λ z. leb-true (getD cs (at + left / 2) 0) y t;
-            high = λ j g l. w .high j (omega arith) l;
-          })
-      go (inr t) =
-          let none : r ≡ 0 = rw t at e in
-          let stays : at + left / 2 * r ≡ at = rw none (omega arith) in
-          rw stays (record {
-            some = omega arith;
-            inside = omega (arith, w .inside);
-            low = w .low;
-            high = λ j g l. omega (arith, leb-false (getD cs (at + left / 2) 0) y t, rise (at + left / 2) j (omega arith) (omega arith));
-          })
+  pub search-begins : 0 < n → Search cs n y 0 n
+  search-begins h = record { some = h; inside = omega arith; low = λ z. absurd (omega arith); high = λ j g l. absurd (omega arith) }
 
-  pub halving-ends : (at left : ℕ) → Halving cs n y at left → left ≤ 1 → LastTo cs n y at
-  halving-ends at left w h = record {
+  pub search-ends : (at left : ℕ) → Search cs n y at left → left ≤ 1 → LastTo cs n y at
+  search-ends at left w h = record {
     inside = omega (arith, w .some, w .inside);
     low = w .low;
     high = λ j g l. w .high j (omega (arith, w .some)) l;
   }
+
+  module _ (rise : InOrder cs) (fits : n ≤ length cs) (at left : ℕ) (w : Search cs n y at left) where
+    -- the composite at a place further on is at most y, or it is not
+    module _ (d : ℕ) (h : d < left) where
+      ahead : leb (getD cs (at + d) 0) y ≡ true → Search cs n y (at + d) (left - d)
+      ahead t = record {
+        some = omega arith;
+        inside = omega (arith, w .inside);
+        low = λ z. leb-true (getD cs (at + d) 0) y t;
+        high = λ j g l. w .high j (omega arith) l;
+      }
+
+      behind : (m : ℕ) → d ≤ m → m ≤ left → 0 < m → leb (getD cs (at + d) 0) y ≡ false → Search cs n y at m
+      behind m a b z t = record {
+        some = z;
+        inside = omega (arith, w .inside);
+        low = w .low;
+        high = λ j g l. omega (arith, leb-false (getD cs (at + d) 0) y t, rise (at + d) j (omega arith) (omega arith));
+      }
+
+  module _ (rise : InOrder cs) (fits : n ≤ length cs) (at left : ℕ) (w : Search cs n y at left) where
+    -- the next composite
+    pub search-one : 1 < left → (r : ℕ) → r ≡ passes (at + 1) → Search cs n y (at + r) (left - 1)
+    search-one h r e = go (is? (leb (getD cs (at + 1) 0) y))
+      where
+        go : (leb (getD cs (at + 1) 0) y ≡ true) ⊎ (leb (getD cs (at + 1) 0) y ≡ false) → Search cs n y (at + r) (left - 1)
+        go (inl t) =
+            let one : r ≡ 1 = rw t at e in
+            rw one (ahead rise fits at left w 1 h t)
+        go (inr t) =
+            let none : at + r ≡ at = omega (arith, rw t at e) in
+            rw none (behind rise fits at left w 1 h (left - 1) (omega arith) (omega arith) (omega arith) t)
+
+    -- three at once, a quarter of what is left apart
+    module _ (q : ℕ) (eq : q ≡ left / 4) (h : 4 ≤ left) (a b c : ℕ) (ea : a ≡ passes (at + q)) (eb : b ≡ passes (at + 2 * q)) (ec : c ≡ passes (at + 3 * q)) where
+      -- behind a composite above y all are
+      above : (i j : ℕ) → i ≤ j → j < n → leb (getD cs i 0) y ≡ false → leb (getD cs j 0) y ≡ false
+      above i j l g t = lt-leb (getD cs j 0) y (omega (arith, leb-false (getD cs i 0) y t, rise i j l (omega arith)))
+
+      moved : (k : ℕ) → a + b + c ≡ k → Search cs n y (at + k * q) (left - 3 * q) → Search cs n y (at + (a + b + c) * q) (left - 3 * q)
+      moved k e v = rw e v
+
+      third : leb (getD cs (at + q) 0) y ≡ true → leb (getD cs (at + 2 * q) 0) y ≡ true
+          → (leb (getD cs (at + 3 * q) 0) y ≡ true) ⊎ (leb (getD cs (at + 3 * q) 0) y ≡ false) → Search cs n y (at + (a + b + c) * q) (left - 3 * q)
+      third t u (inl v) = moved 3 (omega (arith, rw t at ea, rw u at eb, rw v at ec)) (ahead rise fits at left w (3 * q) (omega arith) v)
+      third t u (inr v) =
+          let i : at + 2 * q + q ≡ at + 3 * q = omega arith in
+          moved 2 (omega (arith, rw t at ea, rw u at eb, rw v at ec))
+          (behind rise fits (at + 2 * q) (left - 2 * q) (ahead rise fits at left w (2 * q) (omega arith) u) q (omega arith) (left - 3 * q) (omega arith) (omega arith) (omega arith) (rw i v))
+
+      second : leb (getD cs (at + q) 0) y ≡ true
+          → (leb (getD cs (at + 2 * q) 0) y ≡ true) ⊎ (leb (getD cs (at + 2 * q) 0) y ≡ false) → Search cs n y (at + (a + b + c) * q) (left - 3 * q)
+      second t (inl u) = third t u (is? (leb (getD cs (at + 3 * q) 0) y))
+      second t (inr u) =
+          let i : at + 1 * q + q ≡ at + 2 * q = omega arith in
+          let j : at + 1 * q ≡ at + q = omega arith in
+          let v : leb (getD cs (at + 3 * q) 0) y ≡ false = above (at + 2 * q) (at + 3 * q) (omega arith) (omega (arith, w .inside)) u in
+          moved 1 (omega (arith, rw t at ea, rw u at eb, rw v at ec))
+          (behind rise fits (at + 1 * q) (left - 1 * q) (ahead rise fits at left w (1 * q) (omega arith) (rw j t)) q (omega arith) (left - 3 * q) (omega arith) (omega arith) (omega arith) (rw i u))
+
+      pub search-quarters : Search cs n y (at + (a + b + c) * q) (left - 3 * q)
+      search-quarters = first (is? (leb (getD cs (at + q) 0) y))
+        where
+          first : (leb (getD cs (at + q) 0) y ≡ true) ⊎ (leb (getD cs (at + q) 0) y ≡ false) → Search cs n y (at + (a + b + c) * q) (left - 3 * q)
+          first (inl t) = second t (is? (leb (getD cs (at + 2 * q) 0) y))
+          first (inr t) =
+              let u : leb (getD cs (at + 2 * q) 0) y ≡ false = above (at + q) (at + 2 * q) (omega arith) (omega (arith, w .inside)) t in
+              let v : leb (getD cs (at + 3 * q) 0) y ≡ false = above (at + q) (at + 3 * q) (omega arith) (omega (arith, w .inside)) t in
+              let i : at + 0 * q ≡ at = omega arith in
+              moved 0 (omega (arith, rw t at ea, rw u at eb, rw v at ec))
+              (rw i (behind rise fits at left w q (omega arith) (left - 3 * q) (omega arith) (omega arith) (omega arith) t))
 
 -- ---- the end of a composite's pairs
 
@@ -77,6 +132,14 @@ module _ (cs : List ℕ) (n y : ℕ) where
     inside = omega arith;
     own = λ g. absurd (omega arith);
     past = λ j g l q. absurd (omega (arith, rise j (n - 1) (omega arith) (omega arith)));
+  }
+
+  -- the first has a higher one
+  pub end-high : InOrder cs → n ≤ length cs → y < getD cs 0 0 → PairsEnd cs n y 0
+  end-high rise fits h = record {
+    inside = omega arith;
+    own = λ g. absurd (omega arith);
+    past = λ j g l q. absurd (omega (arith, rise 0 j (omega arith) (omega arith)));
   }
 
   pub end-all : (n ≡ 0 → ⊥) → getD cs (n - 1) 0 ≡ y → PairsEnd cs n y n
@@ -123,11 +186,16 @@ module _ (cs : List ℕ) (n y r : ℕ) (rise : InOrder cs) (fits : n ≤ length 
       go (inl t) (inr q) = omega (arith, ltb-true j r t, ltb-false (suc j) r q)
 
   module _ (marks : List ℕ) where
-    pub mark-none : r ≡ 0 → Marked cs n y marks marks
-    mark-none z = record { own = λ j t. inl t; kept = λ j t. t; last = λ j h e next. absurd (omega (arith, last-is j h e next)) }
+    pub mark-none : r ≡ 0 → Marked cs n y marks marks false
+    mark-none z = record { own = λ j t. inl t; kept = λ j t. t; last = λ j h e next. absurd (omega (arith, last-is j h e next)); before = λ t. absurd (false≢true t) }
 
-    pub mark-set : (r ≡ 0 → ⊥) → length cs ≤ length marks → Marked cs n y marks (set marks (r - 1) 1)
-    mark-set z room = record { own = λ j q. own-at j q (is? (eqb j (r - 1))); kept = λ j q. kept-at j q (is? (eqb j (r - 1))); last = λ j h e next. here j (omega (arith, last-is j h e next)) }
+    pub mark-set : (r ≡ 0 → ⊥) → length cs ≤ length marks → Marked cs n y marks (set marks (r - 1) 1) (eqb (getD marks (r - 1) 0) 1)
+    mark-set z room = record {
+      own = λ j q. own-at j q (is? (eqb j (r - 1)));
+      kept = λ j q. kept-at j q (is? (eqb j (r - 1)));
+      last = λ j h e next. here j (omega (arith, last-is j h e next));
+      before = λ t. record { place = r - 1; mark = eqb-true (getD marks (r - 1) 0) 1 t; composite = w .own (omega arith) };
+    }
       where
         here : (j : ℕ) → j ≡ r - 1 → marked (set marks (r - 1) 1) j
         here j e = rw e (getD-set-same marks (r - 1) 1 0 (omega (arith, w .inside)))
@@ -142,13 +210,13 @@ module _ (cs : List ℕ) (n y r : ℕ) (rise : InOrder cs) (fits : n ≤ length 
 
 -- ---- the table
 
-module _ (p : ℕ) (seen : List ℕ) where
-  pub entered-before : getD seen (p % 1021) 0 ≡ p → Entered p seen seen false
-  entered-before e = record { there = λ _. e; entries = λ h. inr refl }
+module _ (p h : ℕ) (seen : List ℕ) where
+  pub entered-before : getD seen h 0 ≡ p → Entered p seen seen false
+  entered-before e = record { there = λ _. record { place = h; is = e }; entries = λ j. inr refl }
 
-  pub entered-now : 1021 ≤ length seen → Entered p seen (set seen (p % 1021) p) true
-  entered-now room = record { there = λ t. absurd (true≢false t); entries = λ h. at h (is? (eqb h (p % 1021))) }
+  pub entered-now : h < length seen → Entered p seen (set seen h p) true
+  entered-now room = record { there = λ t. absurd (true≢false t); entries = λ j. at j (is? (eqb j h)) }
     where
-      at : (h : ℕ) → (eqb h (p % 1021) ≡ true) ⊎ (eqb h (p % 1021) ≡ false) → (getD (set seen (p % 1021) p) h 0 ≡ p) ⊎ (getD (set seen (p % 1021) p) h 0 ≡ getD seen h 0)
-      at h (inl e) = inl (rw (eqb-true h (p % 1021) e) (getD-set-same seen (p % 1021) p 0 (omega arith)))
-      at h (inr e) = inr (getD-set-other seen (p % 1021) h p 0 (eqb-false h (p % 1021) e))
+      at : (j : ℕ) → (eqb j h ≡ true) ⊎ (eqb j h ≡ false) → (getD (set seen h p) j 0 ≡ p) ⊎ (getD (set seen h p) j 0 ≡ getD seen j 0)
+      at j (inl e) = inl (rw (eqb-true j h e) (getD-set-same seen h p 0 room))
+      at j (inr e) = inr (getD-set-other seen h j p 0 (eqb-false j h e))

@@ -20,22 +20,29 @@ use Rattle.loc_calls.specs.Promises.{Read}
 use Rattle.loc_calls.proofs.Needed.{pairs-fit}
 use Rattle.loc_store.specs.declared.Checked.{Checked}
 use Rattle.loc_store.specs.Areas.{Checks}
-use Rattle.loc_parts.specs.Pass.{marked}
+use Rattle.loc_parts.specs.Pass.{Cleared}
 use Rattle.loc_parts.specs.Put.{Put}
 
--- ---- cleared arrays
+-- ---- arrays of m words
 
-pub cleared : (n j : ℕ) → getD (replicate {A = ℕ} n 0) j 0 ≡ 0
-cleared zero j = refl
-cleared (suc n) zero = refl
-cleared (suc n) (suc j) = cleared n j
+module _ (m : ℕ) where
+  zeros : (j : ℕ) → getD (replicate {A = ℕ} m 0) j 0 ≡ 0
+  zeros = go m
+    where
+      go : (n j : ℕ) → getD (replicate {A = ℕ} n 0) j 0 ≡ 0
+      go zero j = refl
+      go (suc n) zero = refl
+      go (suc n) (suc j) = go n j
 
-pub unmarked : (n j : ℕ) → marked (replicate {A = ℕ} n 0) j → ⊥
-unmarked n j e = omega (arith, cleared n j)
-
--- a word for each of n pairs
-pub room : (n : ℕ) → n ≤ 1024 → n ≤ length (replicate {A = ℕ} 1024 0)
-room n h = rw (length-replicate {A = ℕ} 1024 0) h
+  pub cleared : (n : ℕ) → n ≤ m → 64 ≤ m → Cleared n (replicate m 0) (replicate m 0) (replicate m 0)
+  cleared n h l = record {
+    for-marks = rw (length-replicate {A = ℕ} m 0) h;
+    for-components = rw (length-replicate {A = ℕ} m 0) h;
+    for-table = rw (length-replicate {A = ℕ} m 0) l;
+    for-list = omega arith;
+    unmarked = λ j e. omega (arith, zeros j);
+    empty = zeros;
+  }
 
 -- ---- 16, or the answers
 

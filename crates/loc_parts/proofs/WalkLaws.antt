@@ -1,9 +1,9 @@
 -- The pass, turn by turn: how it begins, a pair without a mark, a pair that counts, and what is found at its end.
 -- `found-needed`: the components that are found are what the record needs.
-use Prim.Native.Nat.{ℕ, suc, _+_, _-_, _%_, _≤_, _<_}
+use Prim.Native.Nat.{ℕ, suc, _+_, _-_, _≤_, _<_}
 use mathlib.Core.Path.{_≡_, refl, sym, ap, _∙_, subst}
 use mathlib.Core.Logic.{_⊎_, inl, inr}
-use mathlib.Core.Bool.{Bool, true, false}
+use mathlib.Core.Bool.{Bool, true, false, false≢true}
 use mathlib.Core.List.{List, [], _∷_}
 use native.Mathlib.Omega.{arith}
 use lib.Dec.{ltb, eqb}
@@ -13,8 +13,8 @@ use borrow.Author.Tests.{ltb-true, ltb-false, eqb-true, eqb-false}
 use Rattle.loc_leaf.proofs.Booleans.{is?}
 use Rattle.loc_calls.specs.Parts.{PairOf, Needs, direct, through, Fit, member, MembersNeeded}
 use Rattle.loc_calls.proofs.Members.{no-member, member-first, member-later, member-cases}
-use Rattle.loc_calls.proofs.Needed.{needs-more}
-use Rattle.loc_parts.specs.Pass.{PairsEnd, marked, LastOwn, Marked, Entered, Wanted, Walking}
+use Rattle.loc_calls.proofs.Needed.{needs-more, needs-falls}
+use Rattle.loc_parts.specs.Pass.{PairsEnd, marked, LastOwn, HasMark, Marked, Stands, Entered, Wanted, Walking}
 
 -- ---- the list of components, as it grows
 
@@ -34,7 +34,7 @@ grown-now p l = record { there = member-first p l; kept = λ y t. member-later p
 
 module _ (cs ps : List ℕ) (x : ℕ) where
   -- at the end of the record's own pairs
-  pub walking-begins : (marks new seen : List ℕ) (r : ℕ) → PairsEnd cs (length cs) x r → ((j : ℕ) → marked marks j → ⊥) → Marked cs r x marks new
+  pub walking-begins : (marks new seen : List ℕ) (r : ℕ) → PairsEnd cs (length cs) x r → ((j : ℕ) → marked marks j → ⊥) → {b : Bool} → Marked cs r x marks new b
       → ((h : ℕ) → getD seen h 0 ≡ 0) → Walking cs ps x new seen [] r
   walking-begins marks new seen r w none g clear = record {
     inside = w .inside;
@@ -97,7 +97,7 @@ module _ (cs ps : List ℕ) (x : ℕ) where
         unwanted t = none (w .full i (omega arith) t (λ l e. absurd (omega arith)))
 
     -- it has one: it marked the last pairs before it of its composite and its component, which is found
-    module _ (fit : Fit cs ps) (mark : marked marks i) (marks₁ : List ℕ) (g : Marked cs i c marks marks₁) where
+    module _ (fit : Fit cs ps) (mark : marked marks i) (marks₁ : List ℕ) {b₁ : Bool} (g : Marked cs i c marks marks₁ b₁) where
       falls : p < c
       falls = fit .below i (omega (arith, w .inside))
 
@@ -126,7 +126,7 @@ module _ (cs ps : List ℕ) (x : ℕ) where
       sound-after j (inl q) = w .sound j q
       sound-after j (inr q) = subst (Wanted x found) (sym q) want
 
-      module _ (marks₂ seen₁ found₁ : List ℕ) (k : Marked cs i p marks₁ marks₂) (n : Grown p found found₁) (entries : (h : ℕ) → (getD seen₁ h 0 ≡ p) ⊎ (getD seen₁ h 0 ≡ getD seen h 0)) where
+      module _ (marks₂ seen₁ found₁ : List ℕ) {b₂ : Bool} (k : Marked cs i p marks₁ marks₂ b₂) (n : Grown p found found₁) (entries : (h : ℕ) → (getD seen₁ h 0 ≡ p) ⊎ (getD seen₁ h 0 ≡ getD seen h 0)) where
         still-wanted : {y : ℕ} → Wanted x found y → Wanted x found₁ y
         still-wanted (inl e) = inl e
         still-wanted {y} (inr e) = inr (n .kept y e)
@@ -173,9 +173,27 @@ module _ (cs ps : List ℕ) (x : ℕ) where
             met-at h l (inl e) = rw e (n .there)
             met-at h l (inr e) = rw e (n .kept (getD seen h 0) (w .met h (omega arith)))
 
-      -- a component that is new
-      pub walking-more : (marks₂ seen₁ : List ℕ) {b : Bool} → Entered p seen seen₁ b → Marked cs i p marks₁ marks₂ → Walking cs ps x marks₂ seen₁ (p ∷ found) i
+      -- a component that is taken
+      pub walking-more : (marks₂ seen₁ : List ℕ) {b d : Bool} → Entered p seen seen₁ b → Marked cs i p marks₁ marks₂ d → Walking cs ps x marks₂ seen₁ (p ∷ found) i
       walking-more marks₂ seen₁ v k = walking-on marks₂ seen₁ (p ∷ found) k (grown-now p found) (v .entries)
+
+      -- one whose last pair has its mark: it is found, since it is not the record
+      pub walking-marked : (marks₂ seen₁ : List ℕ) {b d : Bool} → Entered p seen seen₁ b → Marked cs i p marks₁ marks₂ d → d ≡ true → Walking cs ps x marks₂ seen₁ found i
+      walking-marked marks₂ seen₁ v k t = walking-on marks₂ seen₁ found k (grown-before p found known) (v .entries)
+        where
+          had : HasMark cs p marks₁
+          had = k .before t
+
+          up-to : Wanted x found c → c ≤ x
+          up-to (inl e) = omega arith
+          up-to (inr e) = omega (arith, needs-falls cs ps (fit .below) (w .chained c e))
+
+          not-record : Wanted x found (getD cs (had .place) 0) → member p found ≡ true
+          not-record (inl e) = absurd (omega (arith, e, had .composite, falls, up-to want))
+          not-record (inr e) = subst (λ (y : ℕ). member y found ≡ true) (had .composite) e
+
+          known : member p found ≡ true
+          known = not-record (sound-after (had .place) (g .own (had .place) (had .mark)))
 
       -- one that stands in the table: it is found, and its last pair has its mark
       pub walking-again : (seen₁ : List ℕ) {b : Bool} → Entered p seen seen₁ b → b ≡ false → Walking cs ps x marks₁ seen₁ found i
@@ -183,11 +201,11 @@ module _ (cs ps : List ℕ) (x : ℕ) where
         where
           known : member p found ≡ true
           known =
-              let e : getD seen (p % 1021) 0 ≡ p = v .there old in
-              subst (λ (y : ℕ). member y found ≡ true) e (w .met (p % 1021) (omega (arith, e, fit .some i (omega (arith, w .inside)))))
+              let q : Stands p seen = v .there old in
+              subst (λ (y : ℕ). member y found ≡ true) (q .is) (w .met (q .place) (omega (arith, q .is, fit .some i (omega (arith, w .inside)))))
 
-          stays : Marked cs i p marks₁ marks₁
-          stays = record { own = λ j q. inl q; kept = λ j q. q; last = λ j h e last. full-before j h (inr (rw e known)) last }
+          stays : Marked cs i p marks₁ marks₁ false
+          stays = record { own = λ j q. inl q; kept = λ j q. q; last = λ j h e last. full-before j h (inr (rw e known)) last; before = λ t. absurd (false≢true t) }
 
   -- ---- the end
 

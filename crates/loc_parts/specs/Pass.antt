@@ -1,6 +1,6 @@
 -- The pass over the pairs from the record's last one down to the first: which composites are wanted, and which pairs have a mark.
 -- Then the components in order, each one time.
-use Prim.Native.Nat.{ℕ, suc, _-_, _%_, _≤_, _<_}
+use Prim.Native.Nat.{ℕ, suc, _-_, _≤_, _<_}
 use mathlib.Core.Path.{_≡_}
 use mathlib.Core.Logic.{_⊎_}
 use mathlib.Core.Bool.{Bool, true, false, cond}
@@ -31,17 +31,29 @@ marked marks j = getD marks j 0 ≡ 1
 abbrev pub LastOwn : List ℕ → ℕ → ℕ → Type 0
 LastOwn cs n j = suc j < n → getD cs (suc j) 0 ≡ getD cs j 0 → ⊥
 
--- the marks of old, and one at the last of the first n pairs that has composite y, if there is one
-pub record Marked (cs : List ℕ) (n y : ℕ) (old new : List ℕ) : Type 0 where
+-- a pair with composite y has a mark
+pub record HasMark (cs : List ℕ) (y : ℕ) (marks : List ℕ) : Type 0 where
+  pub place : ℕ
+  pub mark : marked marks place
+  pub composite : getD cs place 0 ≡ y
+
+-- the marks of old, and one at the last of the first n pairs that has composite y, if there is one; the answer is yes only where it had its mark
+pub record Marked (cs : List ℕ) (n y : ℕ) (old new : List ℕ) (r : Bool) : Type 0 where
   pub own : (j : ℕ) → marked new j → marked old j ⊎ (getD cs j 0 ≡ y)
   pub kept : (j : ℕ) → marked old j → marked new j
   pub last : (j : ℕ) → j < n → getD cs j 0 ≡ y → LastOwn cs n j → marked new j
+  pub before : r ≡ true → HasMark cs y old
 
 -- ---- components that were met
 
--- p is not new only where it stands in the table; the new table has what the old one has, or p
+-- p stands in a table
+pub record Stands (p : ℕ) (seen : List ℕ) : Type 0 where
+  pub place : ℕ
+  pub is : getD seen place 0 ≡ p
+
+-- p is not new only where it stands in the old table; the new one has what the old one has, or p
 pub record Entered (p : ℕ) (old new : List ℕ) (isNew : Bool) : Type 0 where
-  pub there : isNew ≡ false → getD old (p % 1021) 0 ≡ p
+  pub there : isNew ≡ false → Stands p old
   pub entries : (h : ℕ) → (getD new h 0 ≡ p) ⊎ (getD new h 0 ≡ getD old h 0)
 
 -- ---- the pass
@@ -60,6 +72,15 @@ pub record Walking (cs ps : List ℕ) (x : ℕ) (marks seen found : List ℕ) (i
   pub sound : (j : ℕ) → marked marks j → Wanted x found (getD cs j 0)
   pub full : (j : ℕ) → j < i → Wanted x found (getD cs j 0) → LastOwn cs i j → marked marks j
   pub met : (h : ℕ) → 0 < getD seen h 0 → member (getD seen h 0) found ≡ true
+
+-- what it begins with, for so many pairs: no mark, no entry in the table, and room in each
+pub record Cleared (pairs : ℕ) (marks stage seen : List ℕ) : Type 0 where
+  pub for-marks : pairs ≤ length marks
+  pub for-components : pairs ≤ length stage
+  pub for-table : 64 ≤ length seen
+  pub for-list : length stage ≤ length seen
+  pub unmarked : (j : ℕ) → marked marks j → ⊥
+  pub empty : (h : ℕ) → getD seen h 0 ≡ 0
 
 -- ---- each one time
 

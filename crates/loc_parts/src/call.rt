@@ -1,9 +1,11 @@
-// The call: its refusals, the pass in arrays of 1,024, and the answers.
+// The call: its refusals, the pass in arrays, and the answers.
 // Nothing is stored to the answers before 16 is ruled out.
-ghost use mathlib.Core.Path.{_≡_};
+ghost use Prim.Native.Nat.{_≤_};
+ghost use lib.ListN.{length};
 ghost use Rattle.loc_calls.specs.Areas.{areas};
 ghost use Rattle.loc_calls.specs.Parts.{needed, Fit, parts};
 ghost use Rattle.loc_calls.specs.Promises.{Read};
+ghost use Rattle.loc_parts.specs.Pass.{Cleared};
 ghost use Rattle.loc_parts.specs.Put.{Put};
 use crate::check::pairs_refusal;
 use crate::pass::needed_records;
@@ -16,27 +18,63 @@ use loc_leaf::refusal::accepted;
 use loc_leaf::refusal::refused;
 use loc_store::check::check_areas;
 
-// What is left once all but 16 are tested.
-fn put_needed(composites: &[u64], components: &[u64], record: u64, answers: &mut [u64]) -> Answer
-    requires { ⌜ Fit (now composites) (now components) ⌝ }
+// 16, or the answers, in arrays that are long enough.
+fn put_with(
+    composites: &[u64],
+    components: &[u64],
+    record: u64,
+    marks: &mut [u8],
+    stage: &mut [u64],
+    list: &mut [u64],
+    answers: &mut [u64],
+) -> Answer
+    requires { ⌜ Fit (now composites) (now components) × Cleared (length (now composites)) (now marks) (now stage) (now list) ⌝ }
     ensures { λ r. ⌜ Put (needed (now (composites .entry)) (now (components .entry)) «record») (now (answers .entry)) r (now (answers .exit)) ⌝ }
 {
-    let mut marks = [0u8; 1024];
-    let mut stage = [0u64; 1024];
-    let mut list = [0u64; 1024];
-    let n = needed_records(
+    let n = needed_records(composites, components, record, marks, stage, list);
+    if answers.len() < n {
+        return refused(ANSWERS_TOO_SHORT);
+    }
+    copy_words(list, n, answers);
+    accepted(n as u64)
+}
+
+// Up to 64 pairs: small arrays, since clearing large ones would take longer than the pass.
+fn put_few(composites: &[u64], components: &[u64], record: u64, answers: &mut [u64]) -> Answer
+    requires { ⌜ Fit (now composites) (now components) × (length (now composites) ≤ 64) ⌝ }
+    ensures { λ r. ⌜ Put (needed (now (composites .entry)) (now (components .entry)) «record») (now (answers .entry)) r (now (answers .exit)) ⌝ }
+{
+    let mut marks = [0u8; 64];
+    let mut stage = [0u64; 64];
+    let mut list = [0u64; 64];
+    put_with(
         composites,
         components,
         record,
         &mut marks,
         &mut stage,
         &mut list,
-    );
-    if answers.len() < n {
-        return refused(ANSWERS_TOO_SHORT);
-    }
-    copy_words(&list, n, answers);
-    accepted(n as u64)
+        answers,
+    )
+}
+
+// Up to 1,024 pairs.
+fn put_many(composites: &[u64], components: &[u64], record: u64, answers: &mut [u64]) -> Answer
+    requires { ⌜ Fit (now composites) (now components) ⌝ }
+    ensures { λ r. ⌜ Put (needed (now (composites .entry)) (now (components .entry)) «record») (now (answers .entry)) r (now (answers .exit)) ⌝ }
+{
+    let mut marks = [0u8; 1024];
+    let mut stage = [0u64; 1024];
+    let mut list = [0u64; 1024];
+    put_with(
+        composites,
+        components,
+        record,
+        &mut marks,
+        &mut stage,
+        &mut list,
+        answers,
+    )
 }
 
 // Refuses by 1, 6; 7, 15, 27, 28, 29, 16. The value is how many records the record needs.
@@ -59,5 +97,8 @@ pub fn parts(
     if number != ACCEPTED {
         return refused(number);
     }
-    put_needed(composites, components, record, answers)
+    if composites.len() <= 64 {
+        return put_few(composites, components, record, answers);
+    }
+    put_many(composites, components, record, answers)
 }

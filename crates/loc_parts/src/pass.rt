@@ -2,24 +2,31 @@
 // before it of its own composite and of its component. What the pairs that count have as components is sorted, each kept one time.
 ghost use mathlib.Core.Path.{_≡_};
 ghost use Prim.Native.Nat.{ℕ, _+_, _≤_, _<_};
-ghost use lib.ListN.{length, getD, take, drop};
+ghost use lib.ListN.{length, take, drop};
 ghost use Rattle.loc_calls.specs.Parts.{InOrder, Fit, needed};
 ghost use Rattle.loc_order.specs.Order.{sorted};
-ghost use Rattle.loc_parts.specs.Pass.{LastTo, PairsEnd, marked, Marked, Entered, Walking, distinct};
+ghost use Rattle.loc_parts.specs.Pass.{LastTo, PairsEnd, marked, Marked, Entered, Walking, Cleared, distinct};
 use loc_leaf::delta_loc::one_if;
 use loc_order::sort_keys;
 
-// The last of the pairs before `end` whose composite is at most y, or the first pair: by halves, without a branch on a composite.
+// The last of the pairs before `end` whose composite is at most y, or the first pair: by quarters, and no branch depends on a composite.
 fn last_to(composites: &[u64], end: usize, y: u64) -> usize
     requires { ⌜ InOrder (now composites) × (0 < end) × (end ≤ length (now composites)) ⌝ }
     ensures { λ r. ⌜ LastTo (now (composites .entry)) end y r ⌝ }
 {
     let mut at: usize = 0;
     let mut left = end;
+    while 4 <= left {
+        let quarter = left / 4;
+        let one = one_if(composites[at + quarter] <= y);
+        let two = one_if(composites[at + 2 * quarter] <= y);
+        let three = one_if(composites[at + 3 * quarter] <= y);
+        at += (one + two + three) * quarter;
+        left -= 3 * quarter;
+    }
     while 1 < left {
-        let half = left / 2;
-        at += half * one_if(composites[at + half] <= y);
-        left -= half;
+        at += one_if(composites[at + 1] <= y);
+        left -= 1;
     }
     at
 }
@@ -39,6 +46,9 @@ fn pairs_end(composites: &[u64], end: usize, y: u64) -> usize
     if last == y {
         return end;
     }
+    if y < composites[0] {
+        return 0;
+    }
     let at = last_to(composites, end, y);
     if composites[at] == y {
         return at + 1;
@@ -46,25 +56,39 @@ fn pairs_end(composites: &[u64], end: usize, y: u64) -> usize
     0
 }
 
-// Marks the last pair before `end` that has composite y, if there is one.
-fn mark_last(composites: &[u64], end: usize, y: u64, marks: &mut [u8])
+// Marks the last pair before `end` that has composite y, if there is one; whether it had its mark.
+fn mark_last(composites: &[u64], end: usize, y: u64, marks: &mut [u8]) -> bool
     requires { ⌜ InOrder (now composites) × (end ≤ length (now composites)) × (length (now composites) ≤ length (now marks)) ⌝ }
-    ensures { λ _. ⌜ Marked (now (composites .entry)) end y (now (marks .entry)) (now (marks .exit)) ⌝ }
+    ensures { λ r. ⌜ Marked (now (composites .entry)) end y (now (marks .entry)) (now (marks .exit)) r ⌝ }
 {
     let r = pairs_end(composites, end, y);
     if r == 0 {
-        return;
+        return false;
     }
+    let before = marks[r - 1] == 1;
     marks[r - 1] = 1;
+    before
 }
 
-// Whether p is new to the table, in which it stands afterwards. Another number that falls on its place takes it,
+// Where a number stands in a table of 64 or of 1,024 words. Numbers that follow each other, or that lie a step apart, are spread.
+fn place_in(words: usize, p: u64) -> usize
+    requires { ⌜ 64 ≤ words ⌝ }
+    ensures { λ r. ⌜ r < words ⌝ }
+{
+    let spread = p % 0x1_0000_0000 * 0x9e37_79b9 / 0x40_0000;
+    if words < 1024 {
+        return (spread % 64) as usize;
+    }
+    (spread % 1024) as usize
+}
+
+// Whether p is new to the table, in which it stands afterwards. Another number with its place takes that,
 // so a component may be taken for new again: the table only saves work.
 fn enter(seen: &mut [u64], p: u64) -> bool
-    requires { ⌜ 1021 ≤ length (now seen) ⌝ }
+    requires { ⌜ 64 ≤ length (now seen) ⌝ }
     ensures { λ r. ⌜ Entered p (now (seen .entry)) (now (seen .exit)) r ⌝ }
 {
-    let h = (p % 1021) as usize;
+    let h = place_in(seen.len(), p);
     if seen[h] == p {
         return false;
     }
@@ -82,7 +106,7 @@ fn take_pair(
     stage: &mut [u64],
     s: usize,
 ) -> usize
-    requires { ⌜ Fit (now composites) (now components) × (i < length (now composites)) × (length (now composites) ≤ length (now marks)) × marked (now marks) i × (1021 ≤ length (now seen)) × (i < s) × (s ≤ length (now stage)) ⌝ }
+    requires { ⌜ Fit (now composites) (now components) × (i < length (now composites)) × (length (now composites) ≤ length (now marks)) × marked (now marks) i × (64 ≤ length (now seen)) × (i < s) × (s ≤ length (now stage)) ⌝ }
     ensures { λ r. ⌜ (i ≤ r) × (r ≤ length (now (stage .exit)))
         × ((x : ℕ) → Walking (now (composites .entry)) (now (components .entry)) x (now (marks .entry)) (now (seen .entry)) (drop s (now (stage .entry))) (i + 1)
         → Walking (now (composites .entry)) (now (components .entry)) x (now (marks .exit)) (now (seen .exit)) (drop r (now (stage .exit))) i) ⌝ }
@@ -90,7 +114,9 @@ fn take_pair(
     mark_last(composites, i, composites[i], marks);
     let p = components[i];
     if enter(seen, p) {
-        mark_last(composites, i, p, marks);
+        if mark_last(composites, i, p, marks) {
+            return s;
+        }
         stage[s - 1] = p;
         return s - 1;
     }
@@ -106,8 +132,7 @@ fn walk(
     seen: &mut [u64],
     stage: &mut [u64],
 ) -> usize
-    requires { ⌜ Fit (now composites) (now components) × (length (now composites) ≤ length (now marks)) × (1021 ≤ length (now seen)) × (length (now composites) ≤ length (now stage)) ⌝ }
-    requires { ⌜ ((j : ℕ) → marked (now marks) j → ⊥) × ((h : ℕ) → getD (now seen) h 0 ≡ 0) ⌝ }
+    requires { ⌜ Fit (now composites) (now components) × Cleared (length (now composites)) (now marks) (now stage) (now seen) ⌝ }
     ensures { λ r. ⌜ (r ≤ length (now (stage .exit))) × Walking (now (composites .entry)) (now (components .entry)) «record» (now (marks .exit)) (now (seen .exit)) (drop r (now (stage .exit))) 0 ⌝ }
 {
     let mut i = pairs_end(composites, composites.len(), record);
@@ -161,8 +186,7 @@ pub fn needed_records(
     stage: &mut [u64],
     list: &mut [u64],
 ) -> usize
-    requires { ⌜ Fit (now composites) (now components) × (length (now composites) ≤ length (now marks)) × (length (now composites) ≤ length (now stage)) × (length (now stage) ≤ length (now list)) × (1021 ≤ length (now list)) ⌝ }
-    requires { ⌜ ((j : ℕ) → marked (now marks) j → ⊥) × ((h : ℕ) → getD (now list) h 0 ≡ 0) ⌝ }
+    requires { ⌜ Fit (now composites) (now components) × Cleared (length (now composites)) (now marks) (now stage) (now list) ⌝ }
     ensures { λ r. ⌜ (r ≤ length (now (list .entry))) × (take r (now (list .exit)) ≡ needed (now (composites .entry)) (now (components .entry)) «record») ⌝ }
 {
     let s = walk(composites, components, record, marks, list, stage);

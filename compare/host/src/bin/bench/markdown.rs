@@ -1,7 +1,10 @@
 //! The tables in Markdown. Times in microseconds, ratios of the times that stand beside them.
 //! Nothing is worked out here but ratios, bytes a second, nanoseconds a record, and nanoseconds a row where there are 9,000 rows or more.
 use crate::measure::Both;
-use crate::tables::{Audited, Line, Listed, Loaded, Run, Searched, Sized, Stored, LISTING_LINES, STORING_RECORDS};
+use crate::tables::{
+    Audited, Composed, Line, Listed, Loaded, Run, Searched, Sized, Stored, LISTING_LINES, PARTS_RECORDS,
+    STORING_RECORDS,
+};
 
 /// From here on what checks do beside the rows is not seen in their time by row.
 pub const MANY_ROWS: usize = 9_000;
@@ -82,6 +85,9 @@ pub fn print(run: &Run) {
     }
     if !run.span_at.is_empty() {
         span_at(&run.span_at);
+    }
+    if !run.parts.is_empty() {
+        parts(&run.parts);
     }
     if !run.audit.is_empty() {
         audit(&run.audit);
@@ -234,6 +240,30 @@ fn span_at(lines: &[Searched]) {
     println!("\n*call* is `span_at` for an address in the first record, in the one at two fifths of the count, and in the last. *ns a record* and both ratios are of the longest of");
     println!("the three. The call reads the whole index whatever the address is, since 17 is asked of every slot. A search by halves over the original's readings looks at a few windows");
     println!("only, so on large indexes it is faster. Such a search does not see a row that is missing elsewhere, and where checkpoints are wrong it may miss the lowest record.");
+}
+
+impl Composed {
+    pub fn against_rust(&self) -> f64 {
+        over(self.times.call, self.times.rust)
+    }
+}
+
+fn parts(lines: &[Composed]) {
+    println!("\n## The parts of a record, paired index of {} records without rows\n", number(PARTS_RECORDS));
+    head("| pairs | records needed | call | search in Rust | call / Rust |");
+    for line in lines {
+        let t = &line.times;
+        println!(
+            "| {} | {:.1} | {} | {} | {} |",
+            line.shape.name(),
+            t.records,
+            us(t.call),
+            us(t.rust),
+            ratio(line.against_rust())
+        );
+    }
+    println!("\nEach line is the mean over 16 lists, which take turns. The search in Rust tests the same refusals of the pairs, finds a composite's first pair by halves, and keeps the records");
+    println!("that it has met in a hash set; it is told the count, which the call takes from the areas. In the last line all numbers fall on one place of the table of components that were met.");
 }
 
 impl Audited {

@@ -1,12 +1,14 @@
-//! What is measured: a reading, an append with the truncation that takes it back, an opening, a listing read back, a load's program, a span address looked for, an audit.
+//! What is measured: a reading, an append with the truncation that takes it back, an opening, a listing read back, a load's program, a span address looked for, the parts of a record, an audit.
 //! Before a reading is timed the answers of port and original are compared.
 use crate::index::{batch, Index};
+use crate::pairs::Shape;
 use crate::turns::{group, over_calls, over_lists, spent, Setting, Side};
 use crate::wanted::Spread;
 use host::areas::{count, counted, Areas, Kind, CHECKPOINTS, ROWS, SLOTS};
 use host::judge::{Folder, Judge};
 use host::listing::{print, read};
 use host::load::{self, printed, PROGRAM};
+use host::parts::plain;
 use host::pick::Pick;
 use host::port;
 use original::io_handle::cut_after;
@@ -250,6 +252,42 @@ pub fn span_at(index: &Index, setting: &Setting) -> Search {
     );
     let [call, halves] = [0, 3].map(|from| [best[from], best[from + 1], best[from + 2]]);
     Search { call, halves, readings: best[6], together: best[7] }
+}
+
+/// Seconds for what a record needs, and how many records that are, over all lists: the port's call, and a plain search in Rust that is told the count.
+#[derive(Clone, Copy)]
+pub struct Needed {
+    pub records: f64,
+    pub call: f64,
+    pub rust: f64,
+}
+
+/// Before the times are taken the answers are compared.
+pub fn parts(index: &Index, shape: Shape, setting: &Setting) -> Needed {
+    let lists = shape.lists();
+    let (mut ours, mut theirs) = ([0; 1024], [0; 1024]);
+    let mut records = 0;
+    for ((composites, components), record) in &lists {
+        let answer = port::parts(&index.areas, (composites, components), *record, &mut ours);
+        assert_eq!(answer, plain(index.records, (composites, components), *record, &mut theirs));
+        assert_eq!((answer.0, ours[..answer.1 as usize] == theirs[..answer.1 as usize]), (0, true));
+        records += answer.1;
+    }
+    let mut call = |i: usize| {
+        let ((composites, components), record) = black_box(&lists[i]);
+        black_box(port::parts(&index.areas, (composites, components), *record, &mut ours));
+    };
+    let mut rust = |i: usize| {
+        let ((composites, components), record) = black_box(&lists[i]);
+        black_box(plain(black_box(index.records), (composites, components), *record, &mut theirs));
+    };
+    let (a, b) = (group(lists.len(), &mut call), group(lists.len(), &mut rust));
+    let times = over_lists(
+        setting,
+        lists.len(),
+        &mut [Side { run: &mut call, group: a, from: 0 }, Side { run: &mut rust, group: b, from: 0 }],
+    );
+    Needed { records: records as f64 / lists.len() as f64, call: times[0], rust: times[1] }
 }
 
 /// Seconds of an audit of a sound index: the port's call, a plain pass in Rust, and the original's readings of all records in calls of 1,024 numbers.

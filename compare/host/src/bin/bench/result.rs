@@ -1,7 +1,7 @@
 //! What the tables say, worked out from the same lines, as the document's section Result.
 //! Every figure and every "all of them" in its text is computed here.
 use crate::markdown::{head, number, over, ratio, us, MANY_ROWS};
-use crate::tables::{Audited, Line, Listed, Loaded, Run, Searched, GROWTH, LISTING_LINES};
+use crate::tables::{Audited, Composed, Line, Listed, Loaded, Run, Searched, GROWTH, LISTING_LINES};
 use crate::wanted::{Spread, WORKLOADS};
 use std::cmp::Ordering;
 
@@ -63,6 +63,9 @@ pub fn print(run: &Run) {
     }
     if !run.span_at.is_empty() {
         span_at(&run.span_at);
+    }
+    if !run.parts.is_empty() {
+        parts(&run.parts);
     }
     if !run.audit.is_empty() {
         audit(&run.audit);
@@ -334,6 +337,18 @@ fn span_at(lines: &[Searched]) {
     );
     let most = lines[lines.len() - 1].records;
     println!("time on {} records and {} on {}.", number(lines[0].records), halves(most), number(most));
+}
+
+fn parts(lines: &[Composed]) {
+    let f = Figures::of(lines.iter().map(Composed::against_rust));
+    let slower: Vec<&str> =
+        lines.iter().filter(|line| line.against_rust() > 1.0).map(|line| line.shape.name()).collect();
+    println!(
+        "\n**The parts of a record**: the call takes {} of the time of a plain search breadth first with a hash set in Rust, median {}; above 1.0 with {}.",
+        range(&f),
+        ratio(f.median()),
+        if slower.is_empty() { "none of the lists".into() } else { slower.join("; ") }
+    );
 }
 
 fn audit(lines: &[Audited]) {

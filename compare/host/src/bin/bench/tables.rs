@@ -2,8 +2,10 @@
 //! Every table has its own; what is in two tables was measured for each.
 use crate::index::{build, Index, DENSITIES, KINDS};
 use crate::measure::{
-    audit, listing, load, opening, reading, span_at, storing, Audit, Both, Listing, Load, Reading, Search,
+    audit, listing, load, opening, parts, reading, span_at, storing, Audit, Both, Listing, Load, Needed, Reading,
+    Search,
 };
+use crate::pairs::{Shape, SHAPES};
 use crate::turns::{spent, Setting};
 use crate::wanted::{Spread, WORKLOADS};
 use host::areas::Kind;
@@ -52,6 +54,12 @@ pub struct Searched {
     pub times: Search,
 }
 
+/// What a record needs, by pairs of one shape.
+pub struct Composed {
+    pub shape: Shape,
+    pub times: Needed,
+}
+
 /// An audit of one index.
 pub struct Audited {
     pub kind: Kind,
@@ -77,6 +85,7 @@ pub struct Run {
     pub listing: Vec<Listed>,
     pub load: Vec<Loaded>,
     pub span_at: Vec<Searched>,
+    pub parts: Vec<Composed>,
     pub audit: Vec<Audited>,
     pub size: Vec<Sized>,
     pub numbers: Vec<Line>,
@@ -171,6 +180,14 @@ pub fn span_at_table(run: &mut Run, folder: &Folder, setting: &Setting) {
             run.span_at.push(Searched { records, density, rows: index.row_count(), times });
         }
     }
+}
+
+pub const PARTS_RECORDS: u64 = 100_000;
+
+/// Pairs of every shape, in an index without rows.
+pub fn parts_table(run: &mut Run, folder: &Folder, setting: &Setting) {
+    let index = build(Kind::Paired, folder, PARTS_RECORDS, 0);
+    run.parts.extend(SHAPES.map(|shape| Composed { shape, times: parts(&index, shape, setting) }));
 }
 
 /// Audits at the same sizes.

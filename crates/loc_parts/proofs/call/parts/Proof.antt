@@ -1,12 +1,9 @@
 -- `loc_parts::call::parts` meets its contract.
+-- A law for each way through the tests.
 use borrow.Author.Needs.{needs}
-use Rattle.loc_store.proofs.check.check_areas.Reads as check-areas-reads
-use Rattle.loc_leaf.proofs.refusal.refused.Reads as refused-reads
 use Rattle.loc_parts.proofs.PutLaws.{parts-first, parts-late, tested-fit, parts-done}
 use Rattle.loc_parts.proofs.call.parts.Statement.{statement}
 use Rattle.loc_parts.proofs.call.parts.Tie as tie
-use Rattle.loc_parts.proofs.call.put_needed.Reads as put-needed-reads
-use Rattle.loc_parts.proofs.check.pairs_refusal.Reads as pairs-refusal-reads
 
 check-areas-requires : tie.Need-check-areas-requires
 check-areas-requires c κs = search needs
@@ -26,14 +23,23 @@ refused-requires-2 c κs = search needs
 returns-2 : tie.Need-returns-2
 returns-2 c = search (needs, parts-late)
 
-put-needed-requires : tie.Need-put-needed-requires
-put-needed-requires c κs = search (needs, tested-fit)
+put-few-requires : tie.Need-put-few-requires
+put-few-requires c κs = (search (needs, tested-fit), search needs)
 
 same-length : tie.Need-same-length
 same-length c = search needs
 
 returns-3 : tie.Need-returns-3
 returns-3 c = search (needs, parts-done)
+
+put-many-requires : tie.Need-put-many-requires
+put-many-requires c κs = search (needs, tested-fit)
+
+same-length-2 : tie.Need-same-length-2
+same-length-2 c = search needs
+
+returns-4 : tie.Need-returns-4
+returns-4 c = search (needs, parts-done)
 
 pub parts-spec : {M : Type 1} → statement M
 parts-spec =
@@ -45,6 +51,9 @@ parts-spec =
     pairs-refusal-requires
     refused-requires-2
     returns-2
-    put-needed-requires
+    put-few-requires
     same-length
-    returns-3)
+    returns-3
+    put-many-requires
+    same-length-2
+    returns-4)

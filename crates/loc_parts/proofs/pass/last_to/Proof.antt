@@ -1,56 +1,137 @@
 -- `loc_parts::pass::last_to` meets its contract.
--- The invariant is `Halving`: what is left of the pairs.
+-- The invariant of both loops is `Search`: what is left of the pairs.
 use Prim.Native.Nat.{_/_}
+use mathlib.Core.Path.{refl}
 use native.Mathlib.Omega.{arith}
 use borrow.Author.Needs.{needs}
-use Rattle.loc_leaf.proofs.delta_loc.one_if.Reads as one-if-reads
-use Rattle.loc_parts.proofs.PairLaws.{Halving, half-or-none, halving-begins, halving-next, halving-ends}
+use Rattle.loc_parts.proofs.PairLaws.{Search, few-times, search-begins, search-quarters, search-one, search-ends}
 use Rattle.loc_parts.proofs.pass.last_to.Statement.{statement}
 use Rattle.loc_parts.proofs.pass.last_to.Tie as tie
 
 abbrev Inv-loop : tie.InvT-loop
 Inv-loop composites end y at₀ left₀ at left =
-    Halving composites end y at left
+    Search composites end y at left
 
 abbrev μ-loop : tie.MeasureT-loop
 μ-loop composites end y at₀ left₀ at left = left
 
-loop-holds : tie.Need-loop-holds Inv-loop μ-loop
-loop-holds c = search (needs, halving-begins)
+abbrev Inv-loop2 : tie.InvT-loop2
+Inv-loop2 composites end y at₀ left₀ at left =
+    Search composites end y at left
 
-add-one-if : tie.Need-add-one-if Inv-loop μ-loop
+abbrev μ-loop2 : tie.MeasureT-loop2
+μ-loop2 composites end y at₀ left₀ at left = left
+
+loop-holds : tie.Need-loop-holds Inv-loop μ-loop Inv-loop2 μ-loop2
+loop-holds c = search (needs, search-begins)
+
+add-one-if : tie.Need-add-one-if Inv-loop μ-loop Inv-loop2 μ-loop2
 add-one-if c = search needs
 
-mul-one-if : tie.Need-mul-one-if Inv-loop μ-loop
+mul-one-if : tie.Need-mul-one-if Inv-loop μ-loop Inv-loop2 μ-loop2
 mul-one-if c = search needs
 
-shared-slice-read-one-if : tie.Need-shared-slice-read-one-if Inv-loop μ-loop
+shared-slice-read-one-if : tie.Need-shared-slice-read-one-if Inv-loop μ-loop Inv-loop2 μ-loop2
 shared-slice-read-one-if c = search needs
 
-one-if-requires : tie.Need-one-if-requires Inv-loop μ-loop
+one-if-requires : tie.Need-one-if-requires Inv-loop μ-loop Inv-loop2 μ-loop2
 one-if-requires c κs = search needs
 
-mul-at : tie.Need-mul-at Inv-loop μ-loop
+mul-one-if-2 : tie.Need-mul-one-if-2 Inv-loop μ-loop Inv-loop2 μ-loop2
+mul-one-if-2 c = search needs
+
+add-one-if-2 : tie.Need-add-one-if-2 Inv-loop μ-loop Inv-loop2 μ-loop2
+add-one-if-2 c = search needs
+
+mul-one-if-3 : tie.Need-mul-one-if-3 Inv-loop μ-loop Inv-loop2 μ-loop2
+mul-one-if-3 c = search needs
+
+shared-slice-read-one-if-2 : tie.Need-shared-slice-read-one-if-2 Inv-loop μ-loop Inv-loop2 μ-loop2
+shared-slice-read-one-if-2 c = search needs
+
+one-if-requires-2 : tie.Need-one-if-requires-2 Inv-loop μ-loop Inv-loop2 μ-loop2
+one-if-requires-2 c κs = search needs
+
+mul-one-if-4 : tie.Need-mul-one-if-4 Inv-loop μ-loop Inv-loop2 μ-loop2
+mul-one-if-4 c = search needs
+
+add-one-if-3 : tie.Need-add-one-if-3 Inv-loop μ-loop Inv-loop2 μ-loop2
+add-one-if-3 c = search needs
+
+mul-one-if-5 : tie.Need-mul-one-if-5 Inv-loop μ-loop Inv-loop2 μ-loop2
+mul-one-if-5 c = search needs
+
+shared-slice-read-one-if-3 : tie.Need-shared-slice-read-one-if-3 Inv-loop μ-loop Inv-loop2 μ-loop2
+shared-slice-read-one-if-3 c = search needs
+
+one-if-requires-3 : tie.Need-one-if-requires-3 Inv-loop μ-loop Inv-loop2 μ-loop2
+one-if-requires-3 c κs = search needs
+
+add-at : tie.Need-add-at Inv-loop μ-loop Inv-loop2 μ-loop2
+add-at c = omega (arith, c .before .before .before .before .one-if .ensures .1, c .before .before .one-if2 .ensures .1, c .one-if3 .ensures .1)
+
+add-at-2 : tie.Need-add-at-2 Inv-loop μ-loop Inv-loop2 μ-loop2
+add-at-2 c = omega (arith, c .before .before .before .before .one-if .ensures .1, c .before .before .one-if2 .ensures .1, c .one-if3 .ensures .1)
+
+mul-at : tie.Need-mul-at Inv-loop μ-loop Inv-loop2 μ-loop2
 mul-at c =
-    let l = c .before .before .before .loop in
-    omega (arith, half-or-none (l .left / 2) (c .one-if .ensures .1), l .inv .inside, c .before .before .before .before .before .pre .2)
+    let l = c .before .before .before .before .before .before .before .loop in
+    let k = few-times (l .left / 4) (c .before .before .before .before .one-if .ensures .1) (c .before .before .one-if2 .ensures .1) (c .one-if3 .ensures .1) in
+    omega (arith, k, l .inv .inside, c .before .before .before .before .before .before .before .before .before .pre .2)
 
-add-at : tie.Need-add-at Inv-loop μ-loop
-add-at c =
-    let l = c .before .before .before .loop in
-    omega (arith, half-or-none (l .left / 2) (c .one-if .ensures .1), l .inv .inside, c .before .before .before .before .before .pre .2)
+add-at-3 : tie.Need-add-at-3 Inv-loop μ-loop Inv-loop2 μ-loop2
+add-at-3 c =
+    let l = c .before .before .before .before .before .before .before .loop in
+    let k = few-times (l .left / 4) (c .before .before .before .before .one-if .ensures .1) (c .before .before .one-if2 .ensures .1) (c .one-if3 .ensures .1) in
+    omega (arith, k, l .inv .inside, c .before .before .before .before .before .before .before .before .before .pre .2)
 
-sub-left : tie.Need-sub-left Inv-loop μ-loop
+mul-left : tie.Need-mul-left Inv-loop μ-loop Inv-loop2 μ-loop2
+mul-left c = search needs
+
+sub-left : tie.Need-sub-left Inv-loop μ-loop Inv-loop2 μ-loop2
 sub-left c = search needs
 
-loop-less : tie.Need-loop-less Inv-loop μ-loop
+loop-less : tie.Need-loop-less Inv-loop μ-loop Inv-loop2 μ-loop2
 loop-less c = search needs
 
-loop-again : tie.Need-loop-again Inv-loop μ-loop
-loop-again c = search (needs, halving-next)
+loop-again : tie.Need-loop-again Inv-loop μ-loop Inv-loop2 μ-loop2
+loop-again c =
+    let l = c .before .before .before .before .before .before .before .loop in
+    let b = c .before .before .before .before .before .before .before .before .before in
+    search-quarters _ _ _ (b .pre .0) (b .pre .2) (l .at) (l .left) (l .inv) _ refl (c .before .before .before .before .before .before .loop-test .taken) _ _ _ (c .before .before .before .before .one-if .ensures .0) (c .before .before .one-if2 .ensures .0) (c .one-if3 .ensures .0)
 
-returns : tie.Need-returns Inv-loop μ-loop
-returns c = search (needs, halving-ends)
+loop2-holds : tie.Need-loop2-holds Inv-loop μ-loop Inv-loop2 μ-loop2
+loop2-holds c = search needs
+
+add-one-if-4 : tie.Need-add-one-if-4 Inv-loop μ-loop Inv-loop2 μ-loop2
+add-one-if-4 c = search needs
+
+mul-one-if-6 : tie.Need-mul-one-if-6 Inv-loop μ-loop Inv-loop2 μ-loop2
+mul-one-if-6 c = search needs
+
+shared-slice-read-one-if-4 : tie.Need-shared-slice-read-one-if-4 Inv-loop μ-loop Inv-loop2 μ-loop2
+shared-slice-read-one-if-4 c = search needs
+
+one-if-requires-4 : tie.Need-one-if-requires-4 Inv-loop μ-loop Inv-loop2 μ-loop2
+one-if-requires-4 c κs = search needs
+
+add-at-4 : tie.Need-add-at-4 Inv-loop μ-loop Inv-loop2 μ-loop2
+add-at-4 c = search needs
+
+sub-left-2 : tie.Need-sub-left-2 Inv-loop μ-loop Inv-loop2 μ-loop2
+sub-left-2 c = search needs
+
+loop2-less : tie.Need-loop2-less Inv-loop μ-loop Inv-loop2 μ-loop2
+loop2-less c = search needs
+
+loop2-again : tie.Need-loop2-again Inv-loop μ-loop Inv-loop2 μ-loop2
+loop2-again c =
+    let l = c .before .before .before .loop2 in
+    let b = c .before .before .before .before .before .before .before in
+    search-one _ _ _ (b .pre .0) (b .pre .2) (l .at) (l .left) (l .inv) (c .before .before .loop2-test .taken) _ (c .one-if4 .ensures .0)
+
+returns : tie.Need-returns Inv-loop μ-loop Inv-loop2 μ-loop2
+returns c = search (needs, search-ends)
 
 pub last-to-spec : {M : Type 1} → statement M
 last-to-spec =
@@ -58,14 +139,38 @@ last-to-spec =
     (tie.spec
     Inv-loop
     μ-loop
+    Inv-loop2
+    μ-loop2
     loop-holds
     add-one-if
     mul-one-if
     shared-slice-read-one-if
     one-if-requires
-    mul-at
+    mul-one-if-2
+    add-one-if-2
+    mul-one-if-3
+    shared-slice-read-one-if-2
+    one-if-requires-2
+    mul-one-if-4
+    add-one-if-3
+    mul-one-if-5
+    shared-slice-read-one-if-3
+    one-if-requires-3
     add-at
+    add-at-2
+    mul-at
+    add-at-3
+    mul-left
     sub-left
     loop-less
     loop-again
+    loop2-holds
+    add-one-if-4
+    mul-one-if-6
+    shared-slice-read-one-if-4
+    one-if-requires-4
+    add-at-4
+    sub-left-2
+    loop2-less
+    loop2-again
     returns)

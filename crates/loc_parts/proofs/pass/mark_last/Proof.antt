@@ -3,13 +3,18 @@ use borrow.Author.Needs.{needs}
 use Rattle.loc_parts.proofs.PairLaws.{mark-none, mark-set}
 use Rattle.loc_parts.proofs.pass.mark_last.Statement.{statement}
 use Rattle.loc_parts.proofs.pass.mark_last.Tie as tie
-use Rattle.loc_parts.proofs.pass.pairs_end.Reads as pairs-end-reads
 
 pairs-end-requires : tie.Need-pairs-end-requires
 pairs-end-requires c κs = search needs
 
 returns : tie.Need-returns
 returns c = search (needs, mark-none)
+
+sub-before : tie.Need-sub-before
+sub-before c = search needs
+
+slice-read-before : tie.Need-slice-read-before
+slice-read-before c = search needs
 
 sub-marks : tie.Need-sub-marks
 sub-marks c = search needs
@@ -26,4 +31,12 @@ returns-2 c = search (needs, mark-set)
 pub mark-last-spec : {M : Type 1} → statement M
 mark-last-spec =
     tie.close
-    (tie.spec pairs-end-requires returns sub-marks slice-write-marks same-length returns-2)
+    (tie.spec
+    pairs-end-requires
+    returns
+    sub-before
+    slice-read-before
+    sub-marks
+    slice-write-marks
+    same-length
+    returns-2)

@@ -7,8 +7,6 @@ use Rattle.loc_parts.proofs.DistinctLaws.{lent-long, stage-needed}
 use Rattle.loc_parts.proofs.WalkLaws.{found-needed}
 use Rattle.loc_parts.proofs.pass.needed_records.Statement.{statement}
 use Rattle.loc_parts.proofs.pass.needed_records.Tie as tie
-use Rattle.loc_parts.proofs.pass.sort_distinct.Reads as sort-distinct-reads
-use Rattle.loc_parts.proofs.pass.walk.Reads as walk-reads
 
 walk-requires : tie.Need-walk-requires
 walk-requires c κs = search needs
@@ -43,8 +41,8 @@ returns c =
     let w = c .before .before .before .before .before .before .before .before .before .before .before .before .before .walk in
     let o = w .last .1 .1 .1 .1 .1 .0 in
     (
-      omega (arith, c .before .before .before .before .sort-distinct .ensures .0, lent-long (now (b .args .composites)) (now (b .args .components)) (b .pre .0 .0) o (w .result), w .ensures .0, b .pre .0 .3),
-      stage-needed _ _ (b .pre .0 .0) o (w .result) (b .args .«record») _ (found-needed _ _ _ _ _ _ (w .ensures .1)) (c .before .before .before .before .sort-distinct .ensures .1),
+      omega (arith, c .before .before .before .before .sort-distinct .ensures .0, lent-long (now (b .args .composites)) (now (b .args .components)) (b .pre .0) o (w .result), w .ensures .0, b .pre .1 .for-list),
+      stage-needed _ _ (b .pre .0) o (w .result) (b .args .«record») _ (found-needed _ _ _ _ _ _ (w .ensures .1)) (c .before .before .before .before .sort-distinct .ensures .1),
     )
 
 pub needed-records-spec : {M : Type 1} → statement M

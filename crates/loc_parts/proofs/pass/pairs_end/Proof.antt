@@ -1,9 +1,8 @@
 -- `loc_parts::pass::pairs_end` meets its contract.
 use borrow.Author.Needs.{needs}
-use Rattle.loc_parts.proofs.PairLaws.{end-none, end-low, end-all, end-found, end-lacking}
+use Rattle.loc_parts.proofs.PairLaws.{end-none, end-low, end-all, end-high, end-found, end-lacking}
 use Rattle.loc_parts.proofs.pass.pairs_end.Statement.{statement}
 use Rattle.loc_parts.proofs.pass.pairs_end.Tie as tie
-use Rattle.loc_parts.proofs.pass.last_to.Reads as last-to-reads
 
 returns : tie.Need-returns
 returns c = search needs
@@ -23,23 +22,29 @@ returns-2 c = search (needs, end-low)
 returns-3 : tie.Need-returns-3
 returns-3 c = search needs
 
+shared-slice-read-if4 : tie.Need-shared-slice-read-if4
+shared-slice-read-if4 c = search needs
+
+returns-4 : tie.Need-returns-4
+returns-4 c = search (needs, end-high)
+
 last-to-requires : tie.Need-last-to-requires
 last-to-requires c κs = search needs
 
-mul-if4 : tie.Need-mul-if4
-mul-if4 c = search needs
+mul-if5 : tie.Need-mul-if5
+mul-if5 c = search needs
 
-shared-slice-read-if4 : tie.Need-shared-slice-read-if4
-shared-slice-read-if4 c = search needs
+shared-slice-read-if5 : tie.Need-shared-slice-read-if5
+shared-slice-read-if5 c = search needs
 
 add-result : tie.Need-add-result
 add-result c = search needs
 
-returns-4 : tie.Need-returns-4
-returns-4 c = search (needs, end-found)
-
 returns-5 : tie.Need-returns-5
-returns-5 c = search (needs, end-lacking)
+returns-5 c = search (needs, end-found)
+
+returns-6 : tie.Need-returns-6
+returns-6 c = search (needs, end-lacking)
 
 pub pairs-end-spec : {M : Type 1} → statement M
 pairs-end-spec =
@@ -51,9 +56,11 @@ pairs-end-spec =
     shared-slice-read-last
     returns-2
     returns-3
-    last-to-requires
-    mul-if4
     shared-slice-read-if4
-    add-result
     returns-4
-    returns-5)
+    last-to-requires
+    mul-if5
+    shared-slice-read-if5
+    add-result
+    returns-5
+    returns-6)

@@ -10,9 +10,6 @@ use Rattle.loc_parts.specs.Pass.{Walking}
 use Rattle.loc_parts.proofs.WalkLaws.{walking-begins, walking-past, place-before, place-first, stage-begins}
 use Rattle.loc_parts.proofs.pass.walk.Statement.{statement}
 use Rattle.loc_parts.proofs.pass.walk.Tie as tie
-use Rattle.loc_parts.proofs.pass.mark_last.Reads as mark-last-reads
-use Rattle.loc_parts.proofs.pass.pairs_end.Reads as pairs-end-reads
-use Rattle.loc_parts.proofs.pass.take_pair.Reads as take-pair-reads
 
 abbrev Inv-loop : tie.InvT-loop
 Inv-loop composites components «record» marks₀ seen₀ stage₀ i₀ s₀ marks seen stage i s =
@@ -35,9 +32,9 @@ loop-holds c =
       search needs,
       search needs,
       search needs,
-      omega (arith, e .inside, b .pre .0 .3),
+      omega (arith, e .inside, b .pre .1 .for-components),
       omega arith,
-      stage-begins _ _ _ _ _ (now (b .args .stage)) _ (walking-begins _ _ _ _ _ _ _ e (b .pre .1 .0) (c .before .before .mark-last .ensures) (b .pre .1 .1)),
+      stage-begins _ _ _ _ _ (now (b .args .stage)) _ (walking-begins _ _ _ _ _ _ _ e (b .pre .1 .unmarked) (c .before .before .mark-last .ensures) (b .pre .1 .empty)),
     )
 
 sub-i : tie.Need-sub-i Inv-loop μ-loop
@@ -51,11 +48,11 @@ take-pair-requires c κs =
     let l = c .before .before .before .before .before .before .loop in
     let b = c .before .before .before .before .before .before .before .before .before .before .before .before .before .before .before .before .before in
     (
-      b .pre .0 .0,
+      b .pre .0,
       omega (arith, c .before .before .before .before .before .loop-test .taken, l .inv .5 .inside),
-      omega (arith, l .inv .0, b .pre .0 .1),
+      omega (arith, l .inv .0, b .pre .1 .for-marks),
       c .before .before .before .if1 .taken,
-      omega (arith, l .inv .1, b .pre .0 .2),
+      omega (arith, l .inv .1, b .pre .1 .for-table),
       omega (arith, c .before .before .before .before .before .loop-test .taken, l .inv .3),
       l .inv .4,
     )
