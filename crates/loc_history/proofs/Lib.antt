@@ -6,3 +6,4 @@ pub mod History
 pub mod Numbers
 pub mod Kept
 pub mod Located
+pub mod Composed

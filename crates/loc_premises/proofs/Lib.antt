@@ -1,3 +1,4 @@
 pub mod Examples
 pub mod Listed
 pub mod Located
+pub mod Composed

@@ -3,3 +3,4 @@ pub mod Lawful
 pub mod Broken
 pub mod Listed
 pub mod Located
+pub mod Composed

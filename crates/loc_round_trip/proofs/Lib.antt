@@ -6,3 +6,4 @@ pub mod Taken
 pub mod RoundTrip
 pub mod Loads
 pub mod Located
+pub mod Composed

@@ -1,4 +1,5 @@
 pub mod Listings
 pub mod RoundTrip
 pub mod Located
+pub mod Composed
 pub mod Loads
