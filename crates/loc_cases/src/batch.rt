@@ -1,7 +1,8 @@
 // The batch that a line's numbers spell: start, length, span start and span count of each record.
 // One number alone is a count: so many records of 8 bytes with 1 span from 16 on. A start that is left over has no length.
 
-fn number(list: &[u64; 1040], at: usize) -> u64 {
+// A number of a line, 0 past its end.
+pub fn number(list: &[u64; 1040], at: usize) -> u64 {
     if at < 1040 { list[at] } else { 0 }
 }
 

@@ -1,5 +1,5 @@
 // A call on the three areas of an array, with a line's numbers: the records of a batch, or the count of a truncation.
-// A reading has the words of its answer buffer and then the wanted numbers.
+// A reading has the words of its answer buffer and then the wanted numbers; parts has these words, the record and then the pairs.
 use crate::areas::CHECKPOINTS;
 use crate::areas::ROWS;
 use crate::areas::SLOTS;
@@ -11,6 +11,9 @@ use crate::batch::span_counts;
 use crate::batch::starts_in;
 use crate::batch::whole_in;
 use crate::listing::put_listing;
+use crate::pairs::column;
+use crate::pairs::components_in;
+use crate::pairs::composites_in;
 use loc_calls::SpanAt;
 use loc_leaf::Answer;
 use loc_leaf::Kind;
@@ -83,6 +86,27 @@ fn append_listing(
     )
 }
 
+fn parts(
+    list: &[u64; 1040],
+    n: usize,
+    slots: &mut [u8],
+    rows: &mut [u8],
+    checkpoints: &mut [u8],
+    answers: &mut [u64],
+) -> Answer {
+    let composites = column(list, n, false);
+    let components = column(list, n, true);
+    calls::parts(
+        slots,
+        rows,
+        checkpoints,
+        first_words(&composites, composites_in(list, n)),
+        first_words(&components, components_in(list, n)),
+        list[1],
+        answers,
+    )
+}
+
 fn storing(letter: u8) -> Storing {
     match letter {
         b'c' => Storing::Create,
@@ -109,6 +133,7 @@ fn on_areas(
         b'a' | b'A' => append(kind, letter, places, list, n, slots, rows, checkpoints),
         b'l' | b'L' => append_listing(letter, places, list, n, slots, rows, checkpoints),
         b'r' => calls::read(kind, slots, rows, checkpoints, wanted(list, n), answers),
+        b'p' => parts(list, n, slots, rows, checkpoints, answers),
         b'u' => calls::audit(kind, slots, rows, checkpoints),
         _ => calls::store(
             kind,

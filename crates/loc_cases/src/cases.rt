@@ -56,7 +56,7 @@ fn untouched(answers: &[u64; 32]) -> bool {
 }
 
 // make: the call alone. kept: number, value, and whether every byte of the areas and every word of the buffer stayed as it
-// was. answer: number, value, and every word of a reading's buffer.
+// was. answer: number, value, and every word of the buffer that a reading or parts is lent.
 fn one(text: &[u8], line: Line, kind: Kind, list: &[u64; 1040], n: usize, w: &mut [u8; 2192]) {
     let letter = letter_of(line);
     let before = *w;
@@ -70,7 +70,7 @@ fn one(text: &[u8], line: Line, kind: Kind, list: &[u64; 1040], n: usize, w: &mu
     print::answer(answer);
     if line.command == b'k' {
         print::kept(areas::same(&before, w) && untouched(&answers));
-    } else if letter == b'r' {
+    } else if letter == b'r' || letter == b'p' {
         print::numbers(&answers, 0, list[0] as usize);
     }
     print::end();

@@ -5,6 +5,7 @@ mod batch;
 mod call;
 mod cases;
 mod listing;
+mod pairs;
 mod print;
 mod script;
 

@@ -132,3 +132,24 @@ pub fn audit(kind: Kind, slots: &[u8], rows: &[u8], checkpoints: &[u8]) -> Answe
 pub fn span_at(slots: &[u8], rows: &[u8], checkpoints: &[u8], address: u64) -> SpanAt {
     create_loc::span_at(slots, rows, checkpoints, address)
 }
+
+// What a record needs by pairs, which the paired kind alone answers.
+pub fn parts(
+    slots: &[u8],
+    rows: &[u8],
+    checkpoints: &[u8],
+    composites: &[u64],
+    components: &[u64],
+    record: u64,
+    answers: &mut [u64],
+) -> Answer {
+    create_loc::parts(
+        slots,
+        rows,
+        checkpoints,
+        composites,
+        components,
+        record,
+        answers,
+    )
+}
