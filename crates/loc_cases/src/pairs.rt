@@ -29,7 +29,11 @@ fn field(list: &[u64; 1040], n: usize, i: usize, component: bool) -> u64 {
         return 0;
     }
     if n == 3 {
-        return if component { 1 + i as u64 } else { 2 + i as u64 };
+        return if component {
+            1 + i as u64
+        } else {
+            2 + i as u64
+        };
     }
     number(list, if component { 3 + 2 * i } else { 2 + 2 * i })
 }

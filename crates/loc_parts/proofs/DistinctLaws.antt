@@ -3,7 +3,7 @@
 use Prim.Native.Nat.{ℕ, _+_, _-_, _≤_, _<_}
 use mathlib.Core.Path.{_≡_, refl, sym, ap, _∙_, subst}
 use mathlib.Core.Logic.{_⊎_, inl, inr}
-use mathlib.Core.Bool.{Bool, true, false, cond}
+use mathlib.Core.Bool.{true, false, cond}
 use mathlib.Core.List.{List, [], _∷_, _++_, append-nil, append-assoc}
 use native.Mathlib.Numerals.{add-one}
 use native.Mathlib.Omega.{arith}
@@ -12,7 +12,7 @@ use lib.ListN.{length, getD, take, drop, set, length-drop, drop-of-length-le}
 use lib.Seq.{drop-cons, take-suc-set, take-all}
 use borrow.Author.Tests.{eqb-true, eqb-false, eq-eqb, ne-eqb}
 use Rattle.loc_leaf.proofs.Booleans.{is?}
-use Rattle.loc_calls.specs.Parts.{PairOf, Needs, direct, through, Fit, needed, member, Strict, MembersNeeded}
+use Rattle.loc_calls.specs.Parts.{Needs, direct, through, Fit, needed, member, Strict, MembersNeeded}
 use Rattle.loc_calls.proofs.Members.{no-member, member-first, member-later, member-cases, member-past, strict-none, strict-cons}
 use Rattle.loc_calls.proofs.Needed.{reached}
 use Rattle.loc_order.specs.Order.{sorted, All, Ordered}

@@ -3,7 +3,7 @@
 use Prim.Native.Nat.{ℕ, zero, suc, _+_, _-_, _*_, _/_, _≤_, _<_}
 use mathlib.Core.Path.{_≡_, refl, sym, ap, _∙_, subst}
 use mathlib.Core.Logic.{_⊎_, inl, inr}
-use mathlib.Core.Bool.{Bool, true, false, cond, false≢true, true≢false}
+use mathlib.Core.Bool.{true, false, cond, false≢true, true≢false}
 use mathlib.Core.List.{List}
 use native.Mathlib.Omega.{arith}
 use lib.Dec.{leb, ltb, eqb}
@@ -123,10 +123,7 @@ module _ (cs : List ℕ) (n y : ℕ) where
 -- ---- the end of a composite's pairs
 
 module _ (cs : List ℕ) (n y : ℕ) where
-  pub end-none : n ≡ 0 → PairsEnd cs n y 0
-  end-none z = record { inside = omega arith; own = λ h. absurd (omega arith); past = λ j g l q. absurd (omega arith) }
-
-  -- the last of the pairs has a lower composite, or y
+  -- the last of the pairs has a lower composite
   pub end-low : InOrder cs → n ≤ length cs → (n ≡ 0 → ⊥) → getD cs (n - 1) 0 < y → PairsEnd cs n y 0
   end-low rise fits z h = record {
     inside = omega arith;
@@ -141,9 +138,6 @@ module _ (cs : List ℕ) (n y : ℕ) where
     own = λ g. absurd (omega arith);
     past = λ j g l q. absurd (omega (arith, rise 0 j (omega arith) (omega arith)));
   }
-
-  pub end-all : (n ≡ 0 → ⊥) → getD cs (n - 1) 0 ≡ y → PairsEnd cs n y n
-  end-all z e = record { inside = omega arith; own = λ h. e; past = λ j g l q. absurd (omega arith) }
 
   module _ (at : ℕ) (w : LastTo cs n y at) where
     pub end-found : getD cs at 0 ≡ y → PairsEnd cs n y (at + 1)

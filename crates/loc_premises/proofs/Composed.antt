@@ -7,7 +7,6 @@ use mathlib.Core.List.{List, []}
 use native.Mathlib.Omega.{arith}
 use lib.ListN.{replicate}
 use Rattle.loc_calls.specs.Areas.{sizes}
-use Rattle.loc_calls.specs.Reading.{within}
 use Rattle.loc_calls.specs.Parts.{someBelow, thoseBelow, reaches, needed, strange, comesBefore, misplaced, firstFault, pairsRefusal, partsRefusal, written}
 use Rattle.loc_history.specs.Book.{bookParts}
 use Rattle.loc_history.specs.History.{isTear}
@@ -25,9 +24,10 @@ four-lawful = (((λ p. p), ((omega arith, (omega arith, tt)), λ _. (omega arith
 
 three-lawful : AllLawful (sizes small) false [] threeKept
 unfolding listings
-three-lawful =
-    (((λ p. p), ((omega arith, (omega arith, tt)), λ _. (omega arith, omega arith))),
-    (((λ p. p), ((omega arith, (omega arith, tt)), λ _. (omega arith, omega arith))), (((λ p. p), tt), tt)))
+three-lawful = (
+  ((λ p. p), ((omega arith, (omega arith, tt)), λ _. (omega arith, omega arith))),
+  (((λ p. p), ((omega arith, (omega arith, tt)), λ _. (omega arith, omega arith))), (((λ p. p), tt), tt)),
+)
 
 by-book : (es : List AnyEvent) → AllLawful (sizes small) false [] es → anyAwaits false es ≡ false → (x : ℕ) → at es x ≡ bookParts (anyBookAtEnd (sizes small) [] es) composites components x (replicate 4 9)
 unfolding PartsOfHistories

@@ -4,7 +4,6 @@ use Prim.Native.Nat.{ℕ}
 use mathlib.Core.Path.{_≡_}
 use mathlib.Core.List.{List, [], _∷_}
 use lib.ListN.{replicate}
-use Rattle.loc_calls.specs.Areas.{Areas}
 use Rattle.loc_calls.specs.Table.{append, truncate}
 use Rattle.loc_calls.specs.Calls.{create}
 use Rattle.loc_history.specs.Book.{Reply}

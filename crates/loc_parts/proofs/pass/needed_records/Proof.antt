@@ -39,8 +39,7 @@ returns : tie.Need-returns
 returns c =
     let b = c .before .before .before .before .before .before .before .before .before .before .before .before .before .before .before .before .before .before .before .before .before .before in
     let w = c .before .before .before .before .before .before .before .before .before .before .before .before .before .walk in
-    let o = w .last .1 .1 .1 .1 .1 .0 in
-    (
+    let o = w .last .1 .1 .1 .1 .1 .0 in (
       omega (arith, c .before .before .before .before .sort-distinct .ensures .0, lent-long (now (b .args .composites)) (now (b .args .components)) (b .pre .0) o (w .result), w .ensures .0, b .pre .1 .for-list),
       stage-needed _ _ (b .pre .0) o (w .result) (b .args .«record») _ (found-needed _ _ _ _ _ _ (w .ensures .1)) (c .before .before .before .before .sort-distinct .ensures .1),
     )

@@ -1,6 +1,6 @@
 -- `loc_parts::pass::pairs_end` meets its contract.
 use borrow.Author.Needs.{needs}
-use Rattle.loc_parts.proofs.PairLaws.{end-none, end-low, end-all, end-high, end-found, end-lacking}
+use Rattle.loc_parts.proofs.PairLaws.{end-low, end-high, end-found, end-lacking}
 use Rattle.loc_parts.proofs.pass.pairs_end.Statement.{statement}
 use Rattle.loc_parts.proofs.pass.pairs_end.Tie as tie
 

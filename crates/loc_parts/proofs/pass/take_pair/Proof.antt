@@ -37,8 +37,7 @@ same-length-2 c = search needs
 
 returns : tie.Need-returns
 returns c =
-    let b = c .before .before .before .before .before .before .before .before .before .before .before .before .before .before .before .before .before .before .before .before .before in
-    (
+    let b = c .before .before .before .before .before .before .before .before .before .before .before .before .before .before .before .before .before .before .before .before .before in (
       omega (arith, b .pre .5),
       b .pre .6,
       λ x w. walking-marked _ _ x _ _ _ _ w (b .pre .0) (b .pre .3) _ (c .before .before .before .before .before .before .before .before .before .before .before .before .before .mark-last .ensures) _ _ (c .before .before .before .before .before .before .before .before .enter .ensures) (c .before .before .before .mark-last2 .ensures) (c .if2 .taken),
@@ -67,8 +66,7 @@ same-length-5 c = search needs
 
 returns-2 : tie.Need-returns-2
 returns-2 c =
-    let b = c .before .before .before .before .before .before .before .before .before .before .before .before .before .before .before .before .before .before .before .before .before in
-    (
+    let b = c .before .before .before .before .before .before .before .before .before .before .before .before .before .before .before .before .before .before .before .before .before in (
       omega (arith, b .pre .5),
       simp length-set (omega (arith, b .pre .6)),
       λ x w. stage-more _ _ x _ _ (now (b .args .stage)) (b .args .s) _ _ (omega (arith, b .pre .5)) (b .pre .6) (walking-more _ _ x _ _ _ _ w (b .pre .0) (b .pre .3) _ (c .before .before .before .before .before .before .before .before .before .before .before .before .before .mark-last .ensures) _ _ (c .before .before .before .before .before .before .before .before .enter .ensures) (c .before .before .before .mark-last2 .ensures)),
@@ -82,8 +80,7 @@ same-length-7 c = search needs
 
 returns-3 : tie.Need-returns-3
 returns-3 c =
-    let b = c .before .before .before .before .before .before .before .before .before .before .before .before .before .before .before .before in
-    (
+    let b = c .before .before .before .before .before .before .before .before .before .before .before .before .before .before .before .before in (
       omega (arith, b .pre .5),
       b .pre .6,
       λ x w. walking-again _ _ x _ _ _ _ w (b .pre .0) (b .pre .3) _ (c .before .before .before .before .before .before .before .before .mark-last .ensures) _ (c .before .before .before .enter .ensures) (c .if1 .left),

@@ -27,8 +27,7 @@ mark-last-requires c κs = search needs
 loop-holds : tie.Need-loop-holds Inv-loop μ-loop
 loop-holds c =
     let b = c .before .before .before .before .before .before .before .before .before .before in
-    let e = c .before .before .before .before .pairs-end .ensures in
-    (
+    let e = c .before .before .before .before .pairs-end .ensures in (
       search needs,
       search needs,
       search needs,
@@ -46,8 +45,7 @@ slice-read-if1 c = search needs
 take-pair-requires : tie.Need-take-pair-requires Inv-loop μ-loop
 take-pair-requires c κs =
     let l = c .before .before .before .before .before .before .loop in
-    let b = c .before .before .before .before .before .before .before .before .before .before .before .before .before .before .before .before .before in
-    (
+    let b = c .before .before .before .before .before .before .before .before .before .before .before .before .before .before .before .before .before in (
       b .pre .0,
       omega (arith, c .before .before .before .before .before .loop-test .taken, l .inv .5 .inside),
       omega (arith, l .inv .0, b .pre .1 .for-marks),
@@ -63,8 +61,7 @@ loop-less c = search needs
 loop-again : tie.Need-loop-again Inv-loop μ-loop
 loop-again c =
     let l = c .before .before .before .before .before .before .before .before .before .before .before .before .before .loop in
-    let t = c .before .before .before .before .before .before .take-pair .ensures in
-    (
+    let t = c .before .before .before .before .before .before .take-pair .ensures in (
       search needs,
       search needs,
       search needs,
@@ -78,8 +75,7 @@ loop-less-2 c = search needs
 
 loop-again-2 : tie.Need-loop-again-2 Inv-loop μ-loop
 loop-again-2 c =
-    let l = c .before .before .before .loop in
-    (
+    let l = c .before .before .before .loop in (
       l .inv .0,
       l .inv .1,
       l .inv .2,
