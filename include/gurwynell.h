@@ -15,8 +15,8 @@ extern "C" {
 #endif
 
 /* What a call returns. Any call gives 1; create no other; open 2 to 5; the others 6, and append 7 to 13, 17 and 22 to 24,
- * truncate 14, read 15 to 17, append_listing 18 to 20 and then append's from 8 on, span_at 17 and then 21. No call gives 25
- * or 26: the program face_load prints them, and 18 for its own input. */
+ * truncate 14, read 15 to 17, append_listing 18 to 20 and then append's from 8 on, span_at 17 and then 21, parts 7, 15, 27 to
+ * 29 and then 16. No call gives 25 or 26: the program face_load prints them, and 18 for its own input. */
 enum gurwynell_refusal {
     GURWYNELL_ACCEPTED = 0,
     GURWYNELL_AREA_TOO_SMALL = 1,          /* an area under 16 bytes */
@@ -25,7 +25,7 @@ enum gurwynell_refusal {
     GURWYNELL_ROWS_NOT_WHOLE = 4,          /* row data not whole */
     GURWYNELL_ROWS_NOT_ASCENDING = 5,      /* a row numbered 0, or not above the row before */
     GURWYNELL_NOT_OPENED = 6,              /* opening would refuse or change a stored length */
-    GURWYNELL_LISTS_DIFFER = 7,            /* batch lists differ in length */
+    GURWYNELL_LISTS_DIFFER = 7,            /* lists of a batch or of pairs differ in length */
     GURWYNELL_NO_SPANS = 8,                /* span count 0 (paired) */
     GURWYNELL_LENGTH_NOT_PADDED = 9,       /* length no multiple of 8 */
     GURWYNELL_TOO_MANY_STRIDES = 10,       /* more than 2^32 - 1 strides */
@@ -33,7 +33,7 @@ enum gurwynell_refusal {
     GURWYNELL_SPANS_NOT_CHAINED = 12,      /* the same for spans (paired) */
     GURWYNELL_PAST_AREA = 13,              /* a new end lies past its area */
     GURWYNELL_PAST_COUNT = 14,             /* truncation past the count */
-    GURWYNELL_TOO_MANY_NUMBERS = 15,       /* more than 1,024 numbers */
+    GURWYNELL_TOO_MANY_NUMBERS = 15,       /* more than 1,024 numbers, or pairs */
     GURWYNELL_ANSWERS_TOO_SHORT = 16,      /* answer buffer too short */
     GURWYNELL_ROW_MISSING = 17,            /* a slot that is looked at needs a row and has none */
     GURWYNELL_LISTING_MALFORMED = 18,      /* no names line, a line not of the form, or a 1,025th value line */
@@ -44,7 +44,10 @@ enum gurwynell_refusal {
     GURWYNELL_BODY_NOT_AT_END = 23,        /* the batch's first body start is not where the list ends */
     GURWYNELL_SPANS_NOT_AT_END = 24,       /* the same for spans (paired) */
     GURWYNELL_SEED_ZERO = 25,              /* seed 0 (the program face_load) */
-    GURWYNELL_TOO_MANY_RECORDS = 26        /* more than 1,024 records (the program face_load) */
+    GURWYNELL_TOO_MANY_RECORDS = 26,       /* more than 1,024 records (the program face_load) */
+    GURWYNELL_NOT_A_RECORD = 27,           /* a number in a pair, or the record, that is 0 or past the count */
+    GURWYNELL_COMPONENT_NOT_BELOW = 28,    /* a component not below its composite */
+    GURWYNELL_PAIRS_NOT_ASCENDING = 29     /* pairs not strictly ascending by composite and then component */
 };
 
 /* Where the words of an answer stand, and how many there are for each wanted number. All are 0 where nothing is found. */
@@ -74,6 +77,8 @@ enum gurwynell_single_word {
     const uint64_t *body_starts, size_t body_starts_len, const uint64_t *body_lens, size_t body_lens_len,                \
         const uint64_t *span_starts, size_t span_starts_len, const uint32_t *span_counts, size_t span_counts_len
 #define GURWYNELL_SINGLE_LISTS const uint64_t *starts, size_t starts_len, const uint64_t *lens, size_t lens_len
+#define GURWYNELL_PAIRS                                                                                                  \
+    const uint64_t *composites, size_t composites_len, const uint64_t *components, size_t components_len
 #define GURWYNELL_READING const uint64_t *wanted, size_t wanted_len, uint64_t *answers, size_t answers_len
 
 /* A `*_run` makes the stores of the first `places` places and no others, as a power cut would leave them: for tests, not to
@@ -95,6 +100,10 @@ uint64_t create_loc_audit(GURWYNELL_LENT_AREAS, uint64_t *value);
 /* Whose crossing is at an address: the lowest record whose span range holds it, the index of the span in that record from 0 on, and
  * the remainder 0 to 7, so that address = span start + 8 * index + remainder. The whole index is read. */
 uint64_t create_loc_span_at(GURWYNELL_LENT_AREAS, uint64_t address, uint64_t *record, uint64_t *index, uint64_t *remainder);
+/* What a record needs, by at most 1,024 pairs of composite and component, ascending by composite and then component, each component
+ * below its composite: the records that chains of pairs lead to from it, each one time, ascending. The value is how many; words of
+ * `answers` past them are untouched. */
+uint64_t create_loc_parts(GURWYNELL_LENT_AREAS, GURWYNELL_PAIRS, uint64_t record, uint64_t *answers, size_t answers_len, uint64_t *value);
 
 uint64_t delta_loc_create(GURWYNELL_AREAS, uint64_t *value);
 uint64_t delta_loc_open(GURWYNELL_AREAS, uint64_t *value);

@@ -1,6 +1,6 @@
 /* README's example, compiled as C and as C++ against the archive: two records are created, appended, opened, read and audited.
- * Prints what differs from document 01's listing. Then a span by its address, a third record from a listing, and batches that
- * are refused; lists of length 0 are NULL. */
+ * Prints what differs from document 01's listing. Then a span by its address, the parts of a record, a third record from a
+ * listing, and batches that are refused; lists of length 0 are NULL. */
 #include "gurwynell.h"
 #include <stdio.h>
 
@@ -42,6 +42,14 @@ int main(void)
     expect("its remainder", remainder, 5);
     expect("span at 48", create_loc_span_at(slots, 64, rows, 64, checkpoints, 64, 48, &record, &index, &remainder), GURWYNELL_ADDRESS_NOT_HELD);
     expect("a refusal's three", record + index + remainder, 0);
+
+    const uint64_t composites[] = {2}, components[] = {1};
+    expect("parts of record 2", create_loc_parts(slots, 64, rows, 64, checkpoints, 64, composites, 1, components, 1, 2, answers, GURWYNELL_PAIRED_WORDS, &value), GURWYNELL_ACCEPTED);
+    expect("how many they are", value, 1);
+    expect("the part", answers[0], 1);
+    expect("a word past it", answers[1], 56);
+    expect("parts of record 3", create_loc_parts(slots, 64, rows, 64, checkpoints, 64, composites, 1, components, 1, 3, NULL, 0, &value), GURWYNELL_NOT_A_RECORD);
+    expect("no pairs", create_loc_parts(slots, 64, rows, 64, checkpoints, 64, NULL, 0, NULL, 0, 2, NULL, 0, &value), GURWYNELL_ACCEPTED);
 
     const char listing[] = "record body_start body_len span_start span_len spans\n3 2104 8 48 16 2\n";
     const uint8_t *text = (const uint8_t *)listing;

@@ -23,7 +23,7 @@ use Rattle.loc_calls.specs.Reading.{sumAfter, allAfter, firstAfter, look
 use Rattle.loc_calls.specs.Audit.{bodyEndAfter, spanEndAfter, checkpointSound, rowFits, rowWanted, rowSound, rowsSound, sound}
 use Rattle.loc_calls.specs.Calls.{unlessRefused, tooSmall, wholeRefusal, unread, isOpening, refusal, places, placeCount, value, lent, buffer, areasAfter, call, createPlaces, create, audit}
 use Rattle.loc_calls.specs.SpanAt.{holds, refusedBy, crossing, spanAmong, spanAt}
-use Rattle.loc_calls.specs.Parts.{someBelow, thoseBelow, reaches, needed, strange, comesBefore, misplaced, firstFault, pairsRefusal, partsRefusal, written, callRefusal, parts}
+use Rattle.loc_calls.specs.Parts.{someBelow, thoseBelow, reaches, needed, strange, comesBefore, misplaced, firstFault, pairsRefusal, partsTable, written, partsRefusal, parts}
 
 -- ---- areas
 
@@ -300,7 +300,7 @@ pub record Computed : Type 0 where
   composes-no-more : (parts composites components 8 (replicate 6 6) ((call Paired 3 (truncate 8) nine) .areas)) .answer ≡ answer 27 0
 
 pub computed : Computed
-unfolding number bytes numberAt store answer counted storeLength storePast pieces fill published stridesRefusal slot needsRow inline slotAt checkpointRule row rowNumber rowValue rowList ascending lastNumber rowsUpTo rowFor hasRow lookup slotValue matches cuts cutFor sizes count valueOf bodyAfter spanAfter zipped entries uneven spanless breaks entryRefusal entriesRefusal startRefusal endPast batchRefusal table step run differing truncatePlaces nextRow holdsNext cutRule ruledCount ruled openPlaces ragged openRefusal stores anyStores settled checkpoint gather rowOf checkpointOf staged newEnd newEnds appendPlaces sumAfter allAfter lookupAt has valueIn valueAt stridesAfter spansAfter checkpointAt windowEnd lookedAt within rowMissing anyMissing words wordsFor answered found bodyRead spanRead endRead bodyEndAfter spanEndAfter checkpointSound rowFits rowWanted rowSound rowsSound sound unlessRefused tooSmall unread isOpening refusal places value lent buffer areasAfter call createPlaces create audit flatten firstAfter wholeRefusal holds crossing spanAmong spanAt someBelow thoseBelow reaches needed strange comesBefore misplaced firstFault pairsRefusal partsRefusal written callRefusal parts
+unfolding number bytes numberAt store answer counted storeLength storePast pieces fill published stridesRefusal slot needsRow inline slotAt checkpointRule row rowNumber rowValue rowList ascending lastNumber rowsUpTo rowFor hasRow lookup slotValue matches cuts cutFor sizes count valueOf bodyAfter spanAfter zipped entries uneven spanless breaks entryRefusal entriesRefusal startRefusal endPast batchRefusal table step run differing truncatePlaces nextRow holdsNext cutRule ruledCount ruled openPlaces ragged openRefusal stores anyStores settled checkpoint gather rowOf checkpointOf staged newEnd newEnds appendPlaces sumAfter allAfter lookupAt has valueIn valueAt stridesAfter spansAfter checkpointAt windowEnd lookedAt within rowMissing anyMissing words wordsFor answered found bodyRead spanRead endRead bodyEndAfter spanEndAfter checkpointSound rowFits rowWanted rowSound rowsSound sound unlessRefused tooSmall unread isOpening refusal places value lent buffer areasAfter call createPlaces create audit flatten firstAfter wholeRefusal holds crossing spanAmong spanAt someBelow thoseBelow reaches needed strange comesBefore misplaced firstFault pairsRefusal partsTable written partsRefusal parts
 computed = record {
   refusals = refl;
   ordered = refl;

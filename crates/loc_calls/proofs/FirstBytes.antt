@@ -24,7 +24,7 @@ use Rattle.loc_calls.specs.Stores.{Place, keep, slotLength, rowLength, c
 use Rattle.loc_calls.specs.Reading.{lookupAt, valueAt, stridesAfter, spansAfter, checkpointAt, windowEnd, rowMissing, anyMissing, wordsFor, bodyRead, spanRead, endRead}
 use Rattle.loc_calls.specs.Audit.{bodyEndAfter, spanEndAfter, checkpointSound, rowSound, rowsSound, sound}
 use Rattle.loc_calls.specs.SpanAt.{spanAmong, spanAt, spanAtOutcome}
-use Rattle.loc_calls.specs.Parts.{callRefusal, parts}
+use Rattle.loc_calls.specs.Parts.{partsRefusal, parts}
 use Rattle.loc_calls.specs.Calls.{unlessRefused, tooSmall, firstRefusal, wholeRefusal, unread, refusal, places, buffer, areasAfter, call, createPlaces, create, audit}
 use Rattle.loc_calls.specs.Guarantees.{AnyCall, indexCall, creation, auditing, locating, composing, outcome, SameFrom8, SameOutcome, Unread, FirstBytesUnread, Unwritten, FirstBytesUnwritten}
 
@@ -265,7 +265,7 @@ unfolding spanAt wholeRefusal spanAmong
 located-same h x = rw (first-same Paired h, count-same Paired h, lookup-same Paired h, words-same Paired h) refl
 
 outcome-same : (c : AnyCall) {a b : Areas} → AllSame a b → SameOutcome (outcome c a) (outcome c b)
-unfolding outcome call create audit spanAtOutcome parts callRefusal
+unfolding outcome call create audit spanAtOutcome parts partsRefusal
 outcome-same (indexCall k s c) h = record {
   answer = rw (refusal-same k h c, count-same k (after-same k h s c)) refl;
   buffer = rw (refusal-same k h c, words-same k h) refl;

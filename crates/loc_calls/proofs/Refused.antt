@@ -24,7 +24,7 @@ use Rattle.loc_calls.specs.declared.SpanAt.{SpanAt}
 use Rattle.loc_calls.specs.Reading.{firstAfter, complete, within, wordsFor, endRead}
 use Rattle.loc_calls.specs.Calls.{unlessRefused, tooSmall, firstRefusal, wholeRefusal, unread, isOpening, tableOf, refusal, call, create, audit}
 use Rattle.loc_calls.specs.SpanAt.{holds, refusedBy, crossing, spanAmong, spanAt, spanAtOutcome}
-use Rattle.loc_calls.specs.Parts.{someBelow, strange, misplaced, needed, firstFault, pairsRefusal, partsRefusal, callRefusal, parts}
+use Rattle.loc_calls.specs.Parts.{someBelow, strange, misplaced, needed, firstFault, pairsRefusal, partsTable, partsRefusal, parts}
 use Rattle.loc_calls.specs.Promises.{Stored}
 use Rattle.loc_calls.specs.Guarantees.{indexCall, creation, auditing, locating, composing, outcome, lentTo, largest, InTable, NumbersOfTable, LeavesAll, RefusalsLeaveAll}
 use Rattle.loc_calls.proofs.Outcomes.{refused}
@@ -137,8 +137,8 @@ located-in a x = go (wholeRefusal Paired a) (firstAfter (holds (wordsFor Paired 
     go zero (suc id) h = omega arith
     go (suc n) id h = h
 
-composed-in : (cs ps : List ℕ) (x : ℕ) (out : List ℕ) (a : Areas) → Numbered (callRefusal a cs ps x out)
-unfolding callRefusal partsRefusal pairsRefusal firstFault
+composed-in : (cs ps : List ℕ) (x : ℕ) (out : List ℕ) (a : Areas) → Numbered (partsRefusal cs ps x out a)
+unfolding partsRefusal partsTable pairsRefusal firstFault
 composed-in cs ps x out a =
     first (first-in Paired a)
     (first
@@ -195,4 +195,4 @@ refusals-leave-all (locating x) a h = record {
   buffer = ap (λ (r : SpanAt). r .«record» ∷ r .index ∷ r .remainder ∷ []) (none-located a x (λ e. h (number-is _ 0 ∙ e)));
   areas = refl;
 }
-refusals-leave-all (composing cs ps x out) a h = record { value = value-0 (callRefusal a cs ps x out) _ h; buffer = kept (callRefusal a cs ps x out) _ _ out h; areas = refl }
+refusals-leave-all (composing cs ps x out) a h = record { value = value-0 (partsRefusal cs ps x out a) _ h; buffer = kept (partsRefusal cs ps x out a) _ _ out h; areas = refl }

@@ -76,21 +76,9 @@ pairsRefusal n cs ps x =
     orElse refuse (not (within n x)) 27
     orElse firstFault n cs ps (length cs)
 
--- a composite is at most every later one
-abbrev pub InOrder : List ℕ → Type 0
-InOrder cs = (i j : ℕ) → i ≤ j → j < length cs → getD cs i 0 ≤ getD cs j 0
-
--- what these leave: lists of one length, of at most 1,024 pairs, with components above 0 and below their composites, and composites in order
-pub record Fit (cs ps : List ℕ) : Type 0 where
-  pub same : length cs ≡ length ps
-  pub few : length cs ≤ 1024
-  pub some : (i : ℕ) → i < length cs → 0 < getD ps i 0
-  pub below : (i : ℕ) → i < length cs → getD ps i 0 < getD cs i 0
-  pub order : InOrder cs
-
--- 16 last: fewer words than the answer has records
-unfoldable pub partsRefusal : ℕ → List ℕ → List ℕ → ℕ → List ℕ → ℕ
-partsRefusal n cs ps x out = pairsRefusal n cs ps x orElse refuse (ltb (length out) (length (needed cs ps x))) 16
+-- the table of n records: these, and 16 last, fewer words than the answer has records
+unfoldable pub partsTable : ℕ → List ℕ → List ℕ → ℕ → List ℕ → ℕ
+partsTable n cs ps x out = pairsRefusal n cs ps x orElse refuse (ltb (length out) (length (needed cs ps x))) 16
 
 -- ---- the call
 
@@ -99,14 +87,14 @@ unfoldable pub written : List ℕ → List ℕ → List ℕ
 written found out = found ++ drop (length found) out
 
 -- order 1, 6, 7, 15, 27, 28, 29, 16
-unfoldable pub callRefusal : Areas → List ℕ → List ℕ → ℕ → List ℕ → ℕ
-callRefusal a cs ps x out = firstRefusal Paired a orElse partsRefusal (count a) cs ps x out
+unfoldable pub partsRefusal : List ℕ → List ℕ → ℕ → List ℕ → Areas → ℕ
+partsRefusal cs ps x out a = firstRefusal Paired a orElse partsTable (count a) cs ps x out
 
 -- the value is how many records x needs
 unfoldable pub parts : List ℕ → List ℕ → ℕ → List ℕ → Areas → Outcome
 parts cs ps x out a = record {
-  answer = answer (callRefusal a cs ps x out) (length (needed cs ps x));
-  buffer = unlessRefused (callRefusal a cs ps x out) (written (needed cs ps x) out) out;
+  answer = answer (partsRefusal cs ps x out a) (length (needed cs ps x));
+  buffer = unlessRefused (partsRefusal cs ps x out a) (written (needed cs ps x) out) out;
   areas = a;
 }
 
@@ -137,3 +125,17 @@ pub record Reached (cs ps : List ℕ) (x : ℕ) : Type 0 where
 -- wherever the lists are not refused
 unfoldable pub AnswersAreReached : Type 0
 AnswersAreReached = (n : ℕ) (cs ps : List ℕ) (x : ℕ) → pairsRefusal n cs ps x ≡ 0 → Reached cs ps x
+
+-- ---- what 7, 15, 27, 28 and 29 leave, for proofs
+
+-- a composite is at most every later one
+abbrev pub InOrder : List ℕ → Type 0
+InOrder cs = (i j : ℕ) → i ≤ j → j < length cs → getD cs i 0 ≤ getD cs j 0
+
+-- one length, at most 1,024 pairs, components above 0 and below their composites, and composites in order
+pub record Fit (cs ps : List ℕ) : Type 0 where
+  pub same : length cs ≡ length ps
+  pub few : length cs ≤ 1024
+  pub some : (i : ℕ) → i < length cs → 0 < getD ps i 0
+  pub below : (i : ℕ) → i < length cs → getD ps i 0 < getD cs i 0
+  pub order : InOrder cs

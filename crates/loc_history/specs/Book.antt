@@ -17,7 +17,7 @@ use Rattle.loc_calls.specs.Table.{Entry, Batch, Call, opening, append, truncate
 use Rattle.loc_calls.specs.Reading.{within}
 use Rattle.loc_calls.specs.Calls.{unlessRefused, value, lent, buffer}
 use Rattle.loc_calls.specs.SpanAt.{spanAmong}
-use Rattle.loc_calls.specs.Parts.{needed, partsRefusal, written}
+use Rattle.loc_calls.specs.Parts.{needed, partsTable, written}
 
 -- it holds the records' lengths and, where paired, span counts (0 where single)
 pub record Rec : Type 0 where
@@ -112,8 +112,8 @@ bookSpanAt L x = spanAmong (bookWords Paired L) (length L) x
 -- what record x needs by pairs (document 02, Item 9): of its own list only the length counts
 unfoldable pub bookParts : List Rec → List ℕ → List ℕ → ℕ → List ℕ → Reply
 bookParts L cs ps x out = record {
-  answer = answer (partsRefusal (length L) cs ps x out) (length (needed cs ps x));
-  buffer = unlessRefused (partsRefusal (length L) cs ps x out) (written (needed cs ps x) out) out;
+  answer = answer (partsTable (length L) cs ps x out) (length (needed cs ps x));
+  buffer = unlessRefused (partsTable (length L) cs ps x out) (written (needed cs ps x) out) out;
 }
 
 -- ---- tears

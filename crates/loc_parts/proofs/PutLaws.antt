@@ -15,7 +15,7 @@ use Rattle.loc_leaf.specs.Answers.{refuse, _orElse_, acceptedWith, refusedBy, a
 use Rattle.loc_leaf.proofs.Refusals.{orElse-first}
 use Rattle.loc_calls.specs.Areas.{areas, count}
 use Rattle.loc_calls.specs.Calls.{unlessRefused}
-use Rattle.loc_calls.specs.Parts.{needed, pairsRefusal, partsRefusal, Fit, written, callRefusal, parts}
+use Rattle.loc_calls.specs.Parts.{needed, pairsRefusal, partsTable, Fit, written, partsRefusal, parts}
 use Rattle.loc_calls.specs.Promises.{Read}
 use Rattle.loc_calls.proofs.Needed.{pairs-fit}
 use Rattle.loc_store.specs.declared.Checked.{Checked}
@@ -64,7 +64,7 @@ module _ (found list out : List ℕ) (n : ℕ) (e : take n list ≡ found) (h : 
 -- ---- the call
 
 module _ (s r c : Bytes) (cs ps : List ℕ) (x : ℕ) (out : List ℕ) where
-  refused : (n : ℕ) → callRefusal (areas s r c) cs ps x out ≡ n → (n ≡ 0 → ⊥) → Read (parts cs ps x out (areas s r c)) (refusedBy n) out
+  refused : (n : ℕ) → partsRefusal cs ps x out (areas s r c) ≡ n → (n ≡ 0 → ⊥) → Read (parts cs ps x out (areas s r c)) (refusedBy n) out
   unfolding parts answer unlessRefused
   refused zero e h = absurd (h refl)
   refused (suc n) e h = (rw e refl, rw e refl)
@@ -72,12 +72,12 @@ module _ (s r c : Bytes) (cs ps : List ℕ) (x : ℕ) (out : List ℕ) where
   module _ (f : Checked) (e : Checks Paired (areas s r c) f) (a : Answer) where
     -- 1 or 6
     pub parts-first : (f .number ≡ 0 → ⊥) → a ≡ refusedBy (f .number) → Read (parts cs ps x out (areas s r c)) a out
-    unfolding callRefusal
+    unfolding partsRefusal
     parts-first h y = rw y (refused (f .number) (rw (← e .number) (orElse-first (f .number) _ h)) h)
 
     module _ (z : f .number ≡ 0) (late : ℕ) (el : late ≡ pairsRefusal (f .count) cs ps x) where
-      number-is : callRefusal (areas s r c) cs ps x out ≡ late orElse refuse (ltb (length out) (length (needed cs ps x))) 16
-      unfolding callRefusal partsRefusal count
+      number-is : partsRefusal cs ps x out (areas s r c) ≡ late orElse refuse (ltb (length out) (length (needed cs ps x))) 16
+      unfolding partsRefusal partsTable count
       number-is = rw (← e .number, z, ← e .count, ← el) refl
 
       -- 7, 15, 27, 28, 29
@@ -87,7 +87,7 @@ module _ (s r c : Bytes) (cs ps : List ℕ) (x : ℕ) (out : List ℕ) where
       pub parts-done : late ≡ 0 → (new : List ℕ) → Put (needed cs ps x) out a new → Read (parts cs ps x out (areas s r c)) a new
       unfolding parts
       parts-done y new w =
-          let q : callRefusal (areas s r c) cs ps x out ≡ refuse (ltb (length out) (length (needed cs ps x))) 16 = number-is ∙ rw y refl in
+          let q : partsRefusal cs ps x out (areas s r c) ≡ refuse (ltb (length out) (length (needed cs ps x))) 16 = number-is ∙ rw y refl in
           (rw q (w .answer), rw q (w .buffer))
 
 pub tested-fit : (n : ℕ) (cs ps : List ℕ) (x late : ℕ) → late ≡ pairsRefusal n cs ps x → late ≡ 0 → Fit cs ps

@@ -7,7 +7,7 @@ use mathlib.Core.List.{List, []}
 use native.Mathlib.Omega.{arith}
 use lib.ListN.{replicate}
 use Rattle.loc_calls.specs.Areas.{sizes}
-use Rattle.loc_calls.specs.Parts.{someBelow, thoseBelow, reaches, needed, strange, comesBefore, misplaced, firstFault, pairsRefusal, partsRefusal, written}
+use Rattle.loc_calls.specs.Parts.{someBelow, thoseBelow, reaches, needed, strange, comesBefore, misplaced, firstFault, pairsRefusal, partsTable, written}
 use Rattle.loc_history.specs.Book.{bookParts}
 use Rattle.loc_history.specs.History.{isTear}
 use Rattle.loc_round_trip.specs.Listings.{AnyEvent, anyBookAtEnd, isAnyTear, anyAwaits, AllLawful}
@@ -34,5 +34,5 @@ unfolding PartsOfHistories
 by-book es l q x = parts-of-histories small (computed .sized) es l q composites components x (replicate 4 9)
 
 pub composed : Composed
-unfolding Composed everything listings anyBookAtEnd anyAwaits isAnyTear isTear bookParts someBelow thoseBelow reaches needed strange comesBefore misplaced firstFault pairsRefusal partsRefusal written
+unfolding Composed everything listings anyBookAtEnd anyAwaits isAnyTear isTear bookParts someBelow thoseBelow reaches needed strange comesBefore misplaced firstFault pairsRefusal partsTable written
 composed = (by-book fourAppended four-lawful refl 4, by-book fourAppended four-lawful refl 3, by-book threeKept three-lawful refl 3)
