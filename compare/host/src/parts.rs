@@ -94,27 +94,32 @@ fn check(
     Ok(answer)
 }
 
-type Case = (&'static str, Vec<(u64, u64)>, u64, usize, Answer, Vec<u64>);
+type Case = (&'static str, Pairs, u64, usize, Answer, Vec<u64>);
 
 /// A name, pairs, a record, words, and what the rules give, in an index of nine records.
 fn cases() -> Vec<Case> {
-    let letters = vec![(5, 1), (5, 2), (7, 3), (7, 5), (8, 5), (8, 7), (9, 4)];
+    let of = |pairs: &[(u64, u64)]| -> Pairs { pairs.iter().copied().unzip() };
+    let letters = || of(&[(5, 1), (5, 2), (7, 3), (7, 5), (8, 5), (8, 7), (9, 4)]);
+    let refused = |name, pairs, record, number| (name, pairs, record, 9, (number, 0), vec![]);
     vec![
-        ("no pairs", vec![], 9, 0, (0, 0), vec![]),
-        ("through others", letters.clone(), 8, 5, (0, 5), vec![1, 2, 3, 5, 7]),
-        ("directly", letters.clone(), 9, 3, (0, 1), vec![4]),
-        ("a record without parts", letters.clone(), 6, 0, (0, 0), vec![]),
-        ("a word too few", letters.clone(), 8, 4, (16, 0), vec![]),
-        ("record 0", letters.clone(), 0, 9, (27, 0), vec![]),
-        ("a record past the count", letters, 10, 9, (27, 0), vec![]),
-        ("a composite past the count", vec![(10, 1)], 1, 9, (27, 0), vec![]),
-        ("both past the count", vec![(11, 10)], 1, 9, (27, 0), vec![]),
-        ("component 0 after one that is not below", vec![(3, 3), (4, 0)], 1, 9, (27, 0), vec![]),
-        ("a pair of one number", vec![(3, 3)], 3, 9, (28, 0), vec![]),
-        ("not below, after one that is misplaced", vec![(4, 2), (3, 1), (5, 6)], 5, 9, (28, 0), vec![]),
-        ("composites fall", vec![(4, 2), (3, 1)], 4, 9, (29, 0), vec![]),
-        ("components fall", vec![(4, 2), (4, 1)], 4, 9, (29, 0), vec![]),
-        ("a pair twice", vec![(4, 2), (4, 2)], 4, 9, (29, 0), vec![]),
+        ("no pairs", of(&[]), 9, 0, (0, 0), vec![]),
+        ("through others", letters(), 8, 5, (0, 5), vec![1, 2, 3, 5, 7]),
+        ("directly", letters(), 9, 3, (0, 1), vec![4]),
+        ("a record without parts", letters(), 6, 0, (0, 0), vec![]),
+        ("a word too few", letters(), 8, 4, (16, 0), vec![]),
+        refused("more than 1,024 that differ in length", (vec![0; 1026], vec![0; 1025]), 0, 7),
+        refused("1,025 pairs", (vec![0; 1025], vec![0; 1025]), 0, 15),
+        refused("1,024 pairs", (vec![0; 1024], vec![0; 1024]), 1, 27),
+        refused("record 0", letters(), 0, 27),
+        refused("a record past the count", letters(), 10, 27),
+        refused("a composite past the count", of(&[(10, 1)]), 1, 27),
+        refused("both past the count", of(&[(11, 10)]), 1, 27),
+        refused("component 0 after one that is not below", of(&[(3, 3), (4, 0)]), 1, 27),
+        refused("a pair of one number", of(&[(3, 3)]), 3, 28),
+        refused("not below, after one that is misplaced", of(&[(4, 2), (3, 1), (5, 6)]), 5, 28),
+        refused("composites fall", of(&[(4, 2), (3, 1)]), 4, 29),
+        refused("components fall", of(&[(4, 2), (4, 1)]), 4, 29),
+        refused("a pair twice", of(&[(4, 2), (4, 2)]), 4, 29),
     ]
 }
 
@@ -124,7 +129,6 @@ pub fn named(folder: &Folder, tally: &mut Tally) -> Result<u64, (String, Vec<Str
     let mut done = 0;
     for (name, pairs, record, words, wanted, list) in cases() {
         let wrong = |message: String| (format!("named pairs, {name}: {message}"), Vec::new());
-        let pairs: Pairs = pairs.into_iter().unzip();
         let answer = check(&nine, counted(&nine, folder), &pairs, record, words, tally).map_err(wrong)?;
         let mut given = vec![0; words];
         port::parts(&nine, (&pairs.0, &pairs.1), record, &mut given);
