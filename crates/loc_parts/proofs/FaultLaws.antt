@@ -12,15 +12,12 @@ use borrow.Author.Tests.{lt-ltb, le-ltb, le-leb, lt-leb, eq-eqb, ne-eqb}
 use Rattle.loc_leaf.specs.Answers.{refuse, _orElse_}
 use Rattle.loc_calls.specs.Reading.{within}
 use Rattle.loc_calls.specs.Parts.{someBelow, strange, comesBefore, misplaced, firstFault, pairsRefusal}
+use Rattle.loc_order.proofs.KeyLaws.{zero-outside}
 use Rattle.loc_parts.specs.Faults.{pairFault, leastFault}
 
--- ---- a number that is not a record's, and one that is
+-- ---- a number past the count, and a record's
 
 module _ (n y : ℕ) where
-  zero-out : y ≡ 0 → within n y ≡ false
-  unfolding within
-  zero-out e = rw e refl
-
   past-out : n < y → within n y ≡ false
   unfolding within
   past-out h = rw (lt-leb y n h) (and-false (ltb 0 y))
@@ -47,7 +44,7 @@ module _ (d q c p : ℕ) where
 module _ (n c p : ℕ) where
   pub raised-zero : c ≡ 0 → 27 ≡ (refuse (strange n c p) 27 orElse 28)
   unfolding strange
-  raised-zero e = rw (zero-out n c e) refl
+  raised-zero e = rw (← zero-outside n c e) refl
 
   pub raised-past : n < p → 27 ≡ (refuse (strange n c p) 27 orElse 28)
   unfolding strange
@@ -64,7 +61,7 @@ module _ (n c p : ℕ) where
 
     pub fault-zero : p ≡ 0 → 27 ≡ pairFault n d q c p
     unfolding pairFault strange
-    fault-zero e = rw (zero-out n p e, and-false (within n c)) refl
+    fault-zero e = rw (← zero-outside n p e, and-false (within n c)) refl
 
     pub fault-past : n < c → 27 ≡ pairFault n d q c p
     unfolding pairFault strange
