@@ -7,6 +7,7 @@ pub mod SlotLaws
 pub mod ValueLaws
 pub mod RowLaws
 pub mod RowPrefix
+pub mod QuarterLaws
 pub mod Lanes
 pub mod BlockLaws
 pub mod MaskLaws

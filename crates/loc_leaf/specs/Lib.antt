@@ -5,5 +5,6 @@ pub mod Kind
 pub mod Slot
 pub mod Rows
 pub mod Cut
+pub mod Quarters
 pub mod Block
 pub mod Starred

@@ -1,124 +1,79 @@
--- The search for the pairs of a composite, the mark at the last of them, and the table of components.
--- `Search` is what the search holds: the pairs that are left.
+-- How many composites are at most a number, the end of a composite's pairs, the mark at the last of them, and the table of components.
+-- Composites are in order throughout.
 use Prim.Native.Nat.{ℕ, zero, suc, _+_, _-_, _*_, _/_, _≤_, _<_}
-use mathlib.Core.Path.{_≡_, refl, sym, ap, _∙_, subst}
+use mathlib.Core.Path.{_≡_, refl, sym, _∙_, subst}
 use mathlib.Core.Logic.{_⊎_, inl, inr}
-use mathlib.Core.Bool.{true, false, cond, false≢true, true≢false}
+use mathlib.Core.Bool.{Bool, true, false, cond, false≢true, true≢false}
 use mathlib.Core.List.{List}
+use native.Mathlib.Nat.{add-zero, add-suc}
 use native.Mathlib.Omega.{arith}
 use lib.Dec.{leb, ltb, eqb}
 use lib.ListN.{length, getD, set}
 use lib.Seq.{getD-set-same, getD-set-other}
-use borrow.Author.Tests.{ltb-true, ltb-false, leb-true, leb-false, lt-leb, eqb-true, eqb-false}
+use borrow.Author.Tests.{ltb-true, ltb-false, leb-true, leb-false, le-leb, lt-leb, eqb-true, eqb-false}
+use Rattle.loc_leaf.specs.Quarters.{Counts, Near}
 use Rattle.loc_leaf.proofs.Booleans.{is?}
+use Rattle.loc_leaf.proofs.QuarterLaws.{near-one, near-quarters}
 use Rattle.loc_calls.specs.Parts.{InOrder}
-use Rattle.loc_parts.specs.Pass.{LastTo, PairsEnd, marked, LastOwn, Marked, Entered}
+use Rattle.loc_parts.specs.Pass.{compositesTo, PairsEnd, marked, LastOwn, Marked, Entered}
 
--- ---- the search
+-- ---- how many are at most y
 
--- of the pairs below n, place `at` or one of the `left` - 1 after it is the last whose composite is at most y
-pub record Search (cs : List ℕ) (n y at left : ℕ) : Type 0 where
-  pub some : 0 < left
-  pub inside : at + left ≤ n
-  pub low : 0 < at → getD cs at 0 ≤ y
-  pub high : (j : ℕ) → at + left ≤ j → j < n → y < getD cs j 0
-
--- q as many times as tests hold
-pub few-times : (q : ℕ) {a b c : ℕ} → a ≤ 1 → b ≤ 1 → c ≤ 1 → (a + b + c) * q ≤ 3 * q
-few-times q {a} {b} {c} l m n = go (a + b + c) (omega arith)
-  where
-    go : (k : ℕ) → k ≤ 3 → k * q ≤ 3 * q
-    go zero h = omega arith
-    go (suc zero) h = omega arith
-    go (suc (suc zero)) h = omega arith
-    go (suc (suc (suc zero))) h = omega arith
-    go (suc (suc (suc (suc k)))) h = absurd (omega arith)
-
-module _ (cs : List ℕ) (n y : ℕ) where
+module _ (cs : List ℕ) (y : ℕ) where
   -- 1 where the composite at a place is at most y
   abbrev pub passes : ℕ → ℕ
   passes j = cond (leb (getD cs j 0) y) 1 0
 
-  pub search-begins : 0 < n → Search cs n y 0 n
-  search-begins h = record { some = h; inside = omega arith; low = λ z. absurd (omega arith); high = λ j g l. absurd (omega arith) }
+  pub to-most : (n : ℕ) → compositesTo cs y n ≤ n
+  unfolding compositesTo
+  to-most zero = omega arith
+  to-most (suc n) = go (leb (getD cs n 0) y) (to-most n)
+    where
+      go : (b : Bool) → compositesTo cs y n ≤ n → compositesTo cs y n + cond b 1 0 ≤ suc n
+      go true h = omega arith
+      go false h = omega arith
 
-  pub search-ends : (at left : ℕ) → Search cs n y at left → left ≤ 1 → LastTo cs n y at
-  search-ends at left w h = record {
-    inside = omega (arith, w .some, w .inside);
-    low = w .low;
-    high = λ j g l. w .high j (omega (arith, w .some)) l;
-  }
+  -- those at most y come first
+  to-all : (n : ℕ) → ((j : ℕ) → j < n → getD cs j 0 ≤ y) → compositesTo cs y n ≡ n
+  unfolding compositesTo
+  to-all zero f = refl
+  to-all (suc n) f = rw (to-all n (λ j h. f j (omega arith)), le-leb (getD cs n 0) y (f n (omega arith))) (omega arith)
 
-  module _ (rise : InOrder cs) (fits : n ≤ length cs) (at left : ℕ) (w : Search cs n y at left) where
-    -- the composite at a place further on is at most y, or it is not
-    module _ (d : ℕ) (h : d < left) where
-      ahead : leb (getD cs (at + d) 0) y ≡ true → Search cs n y (at + d) (left - d)
-      ahead t = record {
-        some = omega arith;
-        inside = omega (arith, w .inside);
-        low = λ z. leb-true (getD cs (at + d) 0) y t;
-        high = λ j g l. w .high j (omega arith) l;
-      }
+  to-rises : (m d : ℕ) → compositesTo cs y m ≤ compositesTo cs y (m + d)
+  unfolding compositesTo
+  to-rises m zero = rw (add-zero m) (omega arith)
+  to-rises m (suc d) = rw (add-suc m d) (omega (arith, to-rises m d))
 
-      behind : (m : ℕ) → d ≤ m → m ≤ left → 0 < m → leb (getD cs (at + d) 0) y ≡ false → Search cs n y at m
-      behind m a b z t = record {
-        some = z;
-        inside = omega (arith, w .inside);
-        low = w .low;
-        high = λ j g l. omega (arith, leb-false (getD cs (at + d) 0) y t, rise (at + d) j (omega arith) (omega arith));
-      }
+  to-stays : (m d : ℕ) → ((j : ℕ) → m ≤ j → j < m + d → y < getD cs j 0) → compositesTo cs y (m + d) ≡ compositesTo cs y m
+  unfolding compositesTo
+  to-stays m zero f = rw (add-zero m) refl
+  to-stays m (suc d) f = rw (add-suc m d, to-stays m d (λ j a h. f j a (omega arith)), lt-leb (getD cs (m + d) 0) y (f (m + d) (omega arith) (omega arith))) (omega arith)
 
-  module _ (rise : InOrder cs) (fits : n ≤ length cs) (at left : ℕ) (w : Search cs n y at left) where
-    -- the next composite
-    pub search-one : 1 < left → (r : ℕ) → r ≡ passes (at + 1) → Search cs n y (at + r) (left - 1)
-    search-one h r e = go (is? (leb (getD cs (at + 1) 0) y))
-      where
-        go : (leb (getD cs (at + 1) 0) y ≡ true) ⊎ (leb (getD cs (at + 1) 0) y ≡ false) → Search cs n y (at + r) (left - 1)
-        go (inl t) =
-            let one : r ≡ 1 = rw t at e in
-            rw one (ahead rise fits at left w 1 h t)
-        go (inr t) =
-            let none : at + r ≡ at = omega (arith, rw t at e) in
-            rw none (behind rise fits at left w 1 h (left - 1) (omega arith) (omega arith) (omega arith) t)
+  pub counts : (n i r : ℕ) → InOrder cs → n ≤ length cs → i < n → r ≡ passes i → Counts (compositesTo cs y n) i r
+  counts n i r rise fits h e = go (is? (leb (getD cs i 0) y))
+    where
+      go : (leb (getD cs i 0) y ≡ true) ⊎ (leb (getD cs i 0) y ≡ false) → Counts (compositesTo cs y n) i r
+      go (inl t) =
+          let l : getD cs i 0 ≤ y = leb-true (getD cs i 0) y t in
+          let m : suc i + (n - suc i) ≡ n = omega arith in
+          inl (rw t at e, omega (arith, to-all (suc i) (λ j g. omega (arith, rise j i (omega arith) (omega arith))), rw m at (to-rises (suc i) (n - suc i))))
+      go (inr t) =
+          let l : y < getD cs i 0 = leb-false (getD cs i 0) y t in
+          let m : i + (n - i) ≡ n = omega arith in
+          inr (rw t at e, omega (arith, to-most i, rw m at (to-stays i (n - i) (λ j a g. omega (arith, rise i j a (omega arith))))))
 
-    -- three at once, a quarter of what is left apart
-    module _ (q : ℕ) (eq : q ≡ left / 4) (h : 4 ≤ left) (a b c : ℕ) (ea : a ≡ passes (at + q)) (eb : b ≡ passes (at + 2 * q)) (ec : c ≡ passes (at + 3 * q)) where
-      -- behind a composite above y all are
-      above : (i j : ℕ) → i ≤ j → j < n → leb (getD cs i 0) y ≡ false → leb (getD cs j 0) y ≡ false
-      above i j l g t = lt-leb (getD cs j 0) y (omega (arith, leb-false (getD cs i 0) y t, rise i j l (omega arith)))
+  -- the turns of the search: three looks at once, and one
+  module _ (n at left : ℕ) (rise : InOrder cs) (fits : n ≤ length cs) (w : Near at left (compositesTo cs y n)) (inside : at + left ≤ n) where
+    pub turn-quarters : 3 ≤ left → (a b c : ℕ) → a ≡ passes (at + (left + 1) / 4 - 1) → b ≡ passes (at + 2 * ((left + 1) / 4) - 1) → c ≡ passes (at + 3 * ((left + 1) / 4) - 1)
+        → ((a + b + c) * ((left + 1) / 4) ≤ 3 * ((left + 1) / 4)) × Near (at + (a + b + c) * ((left + 1) / 4)) (left - 3 * ((left + 1) / 4)) (compositesTo cs y n)
+    turn-quarters h a b c ea eb ec =
+        near-quarters (compositesTo cs y n) at left ((left + 1) / 4) h refl w a b c
+        (counts n (at + (left + 1) / 4 - 1) a rise fits (omega arith) ea)
+        (counts n (at + 2 * ((left + 1) / 4) - 1) b rise fits (omega arith) eb)
+        (counts n (at + 3 * ((left + 1) / 4) - 1) c rise fits (omega arith) ec)
 
-      moved : (k : ℕ) → a + b + c ≡ k → Search cs n y (at + k * q) (left - 3 * q) → Search cs n y (at + (a + b + c) * q) (left - 3 * q)
-      moved k e v = rw e v
-
-      third : leb (getD cs (at + q) 0) y ≡ true → leb (getD cs (at + 2 * q) 0) y ≡ true
-          → (leb (getD cs (at + 3 * q) 0) y ≡ true) ⊎ (leb (getD cs (at + 3 * q) 0) y ≡ false) → Search cs n y (at + (a + b + c) * q) (left - 3 * q)
-      third t u (inl v) = moved 3 (omega (arith, rw t at ea, rw u at eb, rw v at ec)) (ahead rise fits at left w (3 * q) (omega arith) v)
-      third t u (inr v) =
-          let i : at + 2 * q + q ≡ at + 3 * q = omega arith in
-          moved 2 (omega (arith, rw t at ea, rw u at eb, rw v at ec))
-          (behind rise fits (at + 2 * q) (left - 2 * q) (ahead rise fits at left w (2 * q) (omega arith) u) q (omega arith) (left - 3 * q) (omega arith) (omega arith) (omega arith) (rw i v))
-
-      second : leb (getD cs (at + q) 0) y ≡ true
-          → (leb (getD cs (at + 2 * q) 0) y ≡ true) ⊎ (leb (getD cs (at + 2 * q) 0) y ≡ false) → Search cs n y (at + (a + b + c) * q) (left - 3 * q)
-      second t (inl u) = third t u (is? (leb (getD cs (at + 3 * q) 0) y))
-      second t (inr u) =
-          let i : at + 1 * q + q ≡ at + 2 * q = omega arith in
-          let j : at + 1 * q ≡ at + q = omega arith in
-          let v : leb (getD cs (at + 3 * q) 0) y ≡ false = above (at + 2 * q) (at + 3 * q) (omega arith) (omega (arith, w .inside)) u in
-          moved 1 (omega (arith, rw t at ea, rw u at eb, rw v at ec))
-          (behind rise fits (at + 1 * q) (left - 1 * q) (ahead rise fits at left w (1 * q) (omega arith) (rw j t)) q (omega arith) (left - 3 * q) (omega arith) (omega arith) (omega arith) (rw i u))
-
-      pub search-quarters : Search cs n y (at + (a + b + c) * q) (left - 3 * q)
-      search-quarters = first (is? (leb (getD cs (at + q) 0) y))
-        where
-          first : (leb (getD cs (at + q) 0) y ≡ true) ⊎ (leb (getD cs (at + q) 0) y ≡ false) → Search cs n y (at + (a + b + c) * q) (left - 3 * q)
-          first (inl t) = second t (is? (leb (getD cs (at + 2 * q) 0) y))
-          first (inr t) =
-              let u : leb (getD cs (at + 2 * q) 0) y ≡ false = above (at + q) (at + 2 * q) (omega arith) (omega (arith, w .inside)) t in
-              let v : leb (getD cs (at + 3 * q) 0) y ≡ false = above (at + q) (at + 3 * q) (omega arith) (omega (arith, w .inside)) t in
-              let i : at + 0 * q ≡ at = omega arith in
-              moved 0 (omega (arith, rw t at ea, rw u at eb, rw v at ec))
-              (rw i (behind rise fits at left w q (omega arith) (left - 3 * q) (omega arith) (omega arith) (omega arith) t))
+    pub turn-one : 0 < left → (r : ℕ) → r ≡ passes at → Near (at + r) (left - 1) (compositesTo cs y n) × (at + r + (left - 1) ≤ at + left)
+    turn-one h r e = near-one (compositesTo cs y n) at left r h (counts n at r rise fits (omega arith) e) w
 
 -- ---- the end of a composite's pairs
 
@@ -139,29 +94,39 @@ module _ (cs : List ℕ) (n y : ℕ) where
     past = λ j g l q. absurd (omega (arith, rise 0 j (omega arith) (omega arith)));
   }
 
-  module _ (at : ℕ) (w : LastTo cs n y at) where
-    pub end-found : getD cs at 0 ≡ y → PairsEnd cs n y (at + 1)
-    end-found e =
-        let i : at + 1 - 1 ≡ at = omega arith in
-        record {
-          inside = omega (arith, w .inside);
-          own = λ h. rw i e;
-          past = λ j g l q. absurd (omega (arith, w .high j (omega arith) l));
-        }
-
-    pub end-lacking : InOrder cs → n ≤ length cs → (getD cs at 0 ≡ y → ⊥) → PairsEnd cs n y 0
-    end-lacking rise fits ne = record { inside = omega arith; own = λ h. absurd (omega arith); past = λ j g l q. ne (here j l q (is? (ltb at j))) }
+  module _ (rise : InOrder cs) (fits : n ≤ length cs) (r : ℕ) (e : r ≡ compositesTo cs y n) where
+    -- a place's composite is at most y exactly before place r
+    before : (j : ℕ) → j < n → getD cs j 0 ≤ y → j < r
+    before j h l = go (counts cs y n j (passes cs y j) rise fits h refl)
       where
-        -- a pair with composite y is at `at` or before it, where composites are no higher
-        here : (j : ℕ) → j < n → getD cs j 0 ≡ y → (ltb at j ≡ true) ⊎ (ltb at j ≡ false) → getD cs at 0 ≡ y
-        here j l q (inl t) = absurd (omega (arith, w .high j (ltb-true at j t) l))
-        here j l q (inr t) = go (is? (eqb at 0))
-          where
-            go : (eqb at 0 ≡ true) ⊎ (eqb at 0 ≡ false) → getD cs at 0 ≡ y
-            go (inl z) =
-                let e : j ≡ at = omega (arith, ltb-false at j t, eqb-true at 0 z) in
-                ap (λ (i : ℕ). getD cs i 0) (sym e) ∙ q
-            go (inr z) = omega (arith, w .low (omega (arith, eqb-false at 0 z)), rise j at (ltb-false at j t) (omega (arith, w .inside)))
+        go : Counts (compositesTo cs y n) j (passes cs y j) → j < r
+        go (inl (q, g)) = omega arith
+        go (inr (q, g)) = absurd (omega (arith, rw (le-leb (getD cs j 0) y l) at q))
+
+    at-most : (j : ℕ) → j < n → j < r → getD cs j 0 ≤ y
+    at-most j h l = go (counts cs y n j (passes cs y j) rise fits h refl) (is? (leb (getD cs j 0) y))
+      where
+        go : Counts (compositesTo cs y n) j (passes cs y j) → (leb (getD cs j 0) y ≡ true) ⊎ (leb (getD cs j 0) y ≡ false) → getD cs j 0 ≤ y
+        go c (inl t) = leb-true (getD cs j 0) y t
+        go (inl (q, g)) (inr t) = absurd (omega (arith, rw t at q))
+        go (inr (q, g)) (inr t) = absurd (omega arith)
+
+    inside : r ≤ n
+    inside = omega (arith, to-most cs y n)
+
+    pub end-some : (n ≡ 0 → ⊥) → getD cs 0 0 ≤ y → 0 < r
+    end-some z l = before 0 (omega arith) l
+
+    pub end-found : (n ≡ 0 → ⊥) → getD cs 0 0 ≤ y → getD cs (r - 1) 0 ≡ y → PairsEnd cs n y r
+    end-found z l q = record { inside = inside; own = λ h. q; past = λ j g h t. absurd (omega (arith, before j h (omega arith))) }
+
+    pub end-lacking : (n ≡ 0 → ⊥) → getD cs 0 0 ≤ y → (getD cs (r - 1) 0 ≡ y → ⊥) → PairsEnd cs n y 0
+    end-lacking z l ne = record { inside = omega arith; own = λ h. absurd (omega arith); past = λ j g h t. ne (here j h t) }
+      where
+        here : (j : ℕ) → j < n → getD cs j 0 ≡ y → getD cs (r - 1) 0 ≡ y
+        here j h t =
+            let b : j < r = before j h (omega arith) in
+            omega (arith, at-most (r - 1) (omega (arith, inside)) (omega arith), rise j (r - 1) (omega arith) (omega (arith, inside)))
 
 -- ---- the mark
 

@@ -225,16 +225,8 @@ module _ (cs ps : List ℕ) (x : ℕ) where
 -- ---- the stage, at whose end the components stand
 
 module _ (cs ps : List ℕ) (x : ℕ) (marks seen stage : List ℕ) where
-  -- before place i is place i - 1
-  pub place-before : (s i : ℕ) → 0 < i → Walking cs ps x marks seen (drop s stage) i → Walking cs ps x marks seen (drop s stage) (i - 1 + 1)
-  place-before s i h w =
-      let e : i ≡ i - 1 + 1 = omega arith in
-      subst (Walking cs ps x marks seen (drop s stage)) e w
-
-  pub place-first : (s i : ℕ) → i ≤ 0 → Walking cs ps x marks seen (drop s stage) i → Walking cs ps x marks seen (drop s stage) 0
-  place-first s i h w =
-      let e : i ≡ 0 = omega arith in
-      subst (Walking cs ps x marks seen (drop s stage)) e w
+  pub place-is : (s i j : ℕ) → i ≡ j → Walking cs ps x marks seen (drop s stage) i → Walking cs ps x marks seen (drop s stage) j
+  place-is s i j e w = subst (Walking cs ps x marks seen (drop s stage)) e w
 
   pub stage-begins : (i : ℕ) → Walking cs ps x marks seen [] i → Walking cs ps x marks seen (drop (length stage) stage) i
   stage-begins i w = subst (λ (l : List ℕ). Walking cs ps x marks seen l i) (sym (drop-length stage)) w

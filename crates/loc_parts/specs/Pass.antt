@@ -1,21 +1,20 @@
 -- The pass over the pairs from the record's last one down to the first: which composites are wanted, and which pairs have a mark.
 -- Then the components in order, each one time.
-use Prim.Native.Nat.{ℕ, suc, _-_, _≤_, _<_}
+use Prim.Native.Nat.{ℕ, zero, suc, _+_, _-_, _≤_, _<_}
 use mathlib.Core.Path.{_≡_}
 use mathlib.Core.Logic.{_⊎_}
 use mathlib.Core.Bool.{Bool, true, false, cond}
 use mathlib.Core.List.{List, [], _∷_}
-use lib.Dec.{eqb}
+use lib.Dec.{leb, eqb}
 use lib.ListN.{length, getD}
 use Rattle.loc_calls.specs.Parts.{Needs, member}
 
 -- ---- a composite's pairs
 
--- place r is the last of those below n whose composite is at most y, or 0
-pub record LastTo (cs : List ℕ) (n y r : ℕ) : Type 0 where
-  pub inside : r < n
-  pub low : 0 < r → getD cs r 0 ≤ y
-  pub high : (j : ℕ) → r < j → j < n → y < getD cs j 0
+-- how many of the first n composites are at most y
+unfoldable pub compositesTo : List ℕ → ℕ → ℕ → ℕ
+compositesTo cs y zero = 0
+compositesTo cs y (suc n) = compositesTo cs y n + cond (leb (getD cs n 0) y) 1 0
 
 -- one past the last of the first n pairs that has composite y; 0 where none has it
 pub record PairsEnd (cs : List ℕ) (n y r : ℕ) : Type 0 where

@@ -5,27 +5,27 @@ ghost use Prim.Native.Nat.{ℕ, _+_, _≤_, _<_};
 ghost use lib.ListN.{length, take, drop};
 ghost use Rattle.loc_calls.specs.Parts.{InOrder, Fit, needed};
 ghost use Rattle.loc_order.specs.Order.{sorted};
-ghost use Rattle.loc_parts.specs.Pass.{LastTo, PairsEnd, marked, Marked, Entered, Walking, Cleared, distinct};
+ghost use Rattle.loc_parts.specs.Pass.{compositesTo, PairsEnd, marked, Marked, Entered, Walking, Cleared, distinct};
 use loc_leaf::delta_loc::one_if;
 use loc_order::sort_keys;
 
-// The last of the pairs before `end` whose composite is at most y, or the first pair: by quarters, and no branch depends on a composite.
-fn last_to(composites: &[u64], end: usize, y: u64) -> usize
-    requires { ⌜ InOrder (now composites) × (0 < end) × (end ≤ length (now composites)) ⌝ }
-    ensures { λ r. ⌜ LastTo (now (composites .entry)) end y r ⌝ }
+// How many of the composites before `end` are at most y: by quarters, and no branch depends on a composite.
+fn composites_to(composites: &[u64], end: usize, y: u64) -> usize
+    requires { ⌜ InOrder (now composites) × (end ≤ length (now composites)) ⌝ }
+    ensures { λ r. ⌜ r ≡ compositesTo (now (composites .entry)) y end ⌝ }
 {
     let mut at: usize = 0;
     let mut left = end;
-    while 4 <= left {
-        let quarter = left / 4;
-        let one = one_if(composites[at + quarter] <= y);
-        let two = one_if(composites[at + 2 * quarter] <= y);
-        let three = one_if(composites[at + 3 * quarter] <= y);
+    while 3 <= left {
+        let quarter = (left + 1) / 4;
+        let one = one_if(composites[at + quarter - 1] <= y);
+        let two = one_if(composites[at + 2 * quarter - 1] <= y);
+        let three = one_if(composites[at + 3 * quarter - 1] <= y);
         at += (one + two + three) * quarter;
         left -= 3 * quarter;
     }
-    while 1 < left {
-        at += one_if(composites[at + 1] <= y);
+    while 0 < left {
+        at += one_if(composites[at] <= y);
         left -= 1;
     }
     at
@@ -49,9 +49,9 @@ fn pairs_end(composites: &[u64], end: usize, y: u64) -> usize
     if y < composites[0] {
         return 0;
     }
-    let at = last_to(composites, end, y);
-    if composites[at] == y {
-        return at + 1;
+    let r = composites_to(composites, end, y);
+    if composites[r - 1] == y {
+        return r;
     }
     0
 }

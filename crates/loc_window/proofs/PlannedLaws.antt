@@ -16,11 +16,12 @@ use Rattle.loc_leaf.specs.Bytes.{Bytes}
 use Rattle.loc_leaf.specs.Area.{published}
 use Rattle.loc_leaf.specs.Kind.{windowOf}
 use Rattle.loc_leaf.specs.Rows.{rowList, ascending, numberIn, rowsUpTo}
+use Rattle.loc_leaf.specs.Quarters.{Counts, Near}
 use Rattle.loc_leaf.proofs.Booleans.{is?}
 use Rattle.loc_leaf.proofs.RowLaws.{Parts, up-to-parts, none-up-to, rising, rows-count}
 use Rattle.loc_window.specs.declared.PlannedWindow.{PlannedWindow}
 use Rattle.loc_window.specs.Window.{Passed, Rising, RowsBefore}
-use Rattle.loc_window.specs.Planned.{planned, Counts, Near, Nearing}
+use Rattle.loc_window.specs.Planned.{planned, Nearing}
 
 -- ---- the rows of a window
 
@@ -100,28 +101,6 @@ module _ (rs : List Bytes) (a : ascending 0 rs ≡ true) where
       few : Dec (rowsUpTo n rs ≤ p + (n - end)) → rowsUpTo n rs ≤ p + (n - end)
       few (yes h) = h
       few (no h) = absurd (omega (arith, at .above p (omega arith) (omega (arith, to .inside)), rises p (n - end) (omega (arith, to .inside)), to .upTo (p + (n - end)) (omega arith)))
-
-pub near-few : (p place r : ℕ) → Counts p place r → r ≤ 1
-near-few p place r (inl (e, l)) = omega arith
-near-few p place r (inr (e, l)) = omega arith
-
--- one row less to look at
-pub near-one : (p from left r : ℕ) → 0 < left → Counts p from r → Near from left p → Near (from + r) (left - 1) p × (from + r + (left - 1) ≤ from + left)
-near-one p from left r h (inl (e, l)) w = (rw e (record { low = omega (arith, w .low); high = omega (arith, w .high) }), omega arith)
-near-one p from left r h (inr (e, l)) w = (rw e (record { low = omega (arith, w .low); high = omega (arith, w .high) }), omega arith)
-
--- three of four quarters less
-module _ (p from left q : ℕ) (h : 3 ≤ left) (eq : q ≡ (left + 1) / 4) (w : Near from left p) where
-  pub near-quarters : (x y z : ℕ) → Counts p (from + q - 1) x → Counts p (from + 2 * q - 1) y → Counts p (from + 3 * q - 1) z
-      → ((x + y + z) * q ≤ 3 * q) × Near (from + (x + y + z) * q) (left - 3 * q) p
-  near-quarters x y z (inl (ex, lx)) (inl (ey, ly)) (inl (ez, lz)) = rw (ex, ey, ez) ((omega arith, record { low = omega (arith, w .low); high = omega (arith, w .high) }))
-  near-quarters x y z (inl (ex, lx)) (inl (ey, ly)) (inr (ez, lz)) = rw (ex, ey, ez) ((omega arith, record { low = omega (arith, w .low); high = omega (arith, w .high) }))
-  near-quarters x y z (inl (ex, lx)) (inr (ey, ly)) (inr (ez, lz)) = rw (ex, ey, ez) ((omega arith, record { low = omega (arith, w .low); high = omega (arith, w .high) }))
-  near-quarters x y z (inr (ex, lx)) (inr (ey, ly)) (inr (ez, lz)) = rw (ex, ey, ez) ((omega arith, record { low = omega (arith, w .low); high = omega (arith, w .high) }))
-  near-quarters x y z (inl (ex, lx)) (inr (ey, ly)) (inl (ez, lz)) = absurd (omega arith)
-  near-quarters x y z (inr (ex, lx)) (inl (ey, ly)) (inl (ez, lz)) = absurd (omega arith)
-  near-quarters x y z (inr (ex, lx)) (inl (ey, ly)) (inr (ez, lz)) = absurd (omega arith)
-  near-quarters x y z (inr (ex, lx)) (inr (ey, ly)) (inl (ez, lz)) = absurd (omega arith)
 
 -- ---- both places
 

@@ -1,6 +1,8 @@
 -- `loc_parts::pass::pairs_end` meets its contract.
+use native.Mathlib.Omega.{arith}
 use borrow.Author.Needs.{needs}
-use Rattle.loc_parts.proofs.PairLaws.{end-low, end-high, end-found, end-lacking}
+use denote.Ref.{now}
+use Rattle.loc_parts.proofs.PairLaws.{to-most, end-low, end-high, end-some, end-found, end-lacking}
 use Rattle.loc_parts.proofs.pass.pairs_end.Statement.{statement}
 use Rattle.loc_parts.proofs.pass.pairs_end.Tie as tie
 
@@ -28,17 +30,21 @@ shared-slice-read-if4 c = search needs
 returns-4 : tie.Need-returns-4
 returns-4 c = search (needs, end-high)
 
-last-to-requires : tie.Need-last-to-requires
-last-to-requires c κs = search needs
+composites-to-requires : tie.Need-composites-to-requires
+composites-to-requires c κs = search needs
+
+sub-if5 : tie.Need-sub-if5
+sub-if5 c = search (needs, end-some)
 
 mul-if5 : tie.Need-mul-if5
-mul-if5 c = search needs
+mul-if5 c =
+    let some = end-some _ _ _ (c .before .before .before .before .before .before .before .before .pre .0) (c .before .before .before .before .before .before .before .before .pre .1) _ (c .composites-to .ensures) (c .before .before .before .before .before .before .if1 .left) (c .before .if4 .left) in
+    omega (arith, to-most (now (c .before .before .before .before .before .before .before .before .args .composites)) (c .before .before .before .before .before .before .before .before .args .y) (c .before .before .before .before .before .before .before .before .args .end), c .composites-to .ensures, c .before .before .before .before .before .before .before .before .pre .1, some)
 
 shared-slice-read-if5 : tie.Need-shared-slice-read-if5
-shared-slice-read-if5 c = search needs
-
-add-result : tie.Need-add-result
-add-result c = search needs
+shared-slice-read-if5 c =
+    let some = end-some _ _ _ (c .before .before .before .before .before .before .before .before .before .pre .0) (c .before .before .before .before .before .before .before .before .before .pre .1) _ (c .before .composites-to .ensures) (c .before .before .before .before .before .before .before .if1 .left) (c .before .before .if4 .left) in
+    omega (arith, to-most (now (c .before .before .before .before .before .before .before .before .before .args .composites)) (c .before .before .before .before .before .before .before .before .before .args .y) (c .before .before .before .before .before .before .before .before .before .args .end), c .before .composites-to .ensures, c .before .before .before .before .before .before .before .before .before .pre .1, some)
 
 returns-5 : tie.Need-returns-5
 returns-5 c = search (needs, end-found)
@@ -58,9 +64,9 @@ pairs-end-spec =
     returns-3
     shared-slice-read-if4
     returns-4
-    last-to-requires
+    composites-to-requires
+    sub-if5
     mul-if5
     shared-slice-read-if5
-    add-result
     returns-5
     returns-6)

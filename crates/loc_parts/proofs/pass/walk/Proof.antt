@@ -1,13 +1,13 @@
 -- `loc_parts::pass::walk` meets its contract.
 -- The invariant is `Walking`, of the components at the end of the stage.
-use Prim.Native.Nat.{_≤_}
+use Prim.Native.Nat.{_+_, _-_, _≤_}
 use mathlib.Core.Path.{_≡_}
 use native.Mathlib.Omega.{arith}
 use lib.ListN.{length, drop}
 use borrow.Author.Needs.{needs}
 use denote.Ref.{now}
 use Rattle.loc_parts.specs.Pass.{Walking}
-use Rattle.loc_parts.proofs.WalkLaws.{walking-begins, walking-past, place-before, place-first, stage-begins}
+use Rattle.loc_parts.proofs.WalkLaws.{walking-begins, walking-past, place-is, stage-begins}
 use Rattle.loc_parts.proofs.pass.walk.Statement.{statement}
 use Rattle.loc_parts.proofs.pass.walk.Tie as tie
 
@@ -67,7 +67,7 @@ loop-again c =
       search needs,
       t .0,
       t .1,
-      t .2 _ (place-before _ _ _ _ _ (l .stage) (l .s) _ (c .before .before .before .before .before .before .before .before .before .before .before .before .loop-test .taken) (l .inv .5)),
+      t .2 _ (place-is _ _ _ _ _ (l .stage) (l .s) (l .i) (l .i - 1 + 1) (omega (arith, c .before .before .before .before .before .before .before .before .before .before .before .before .loop-test .taken)) (l .inv .5)),
     )
 
 loop-less-2 : tie.Need-loop-less-2 Inv-loop μ-loop
@@ -81,7 +81,7 @@ loop-again-2 c =
       l .inv .2,
       omega (arith, l .inv .3),
       l .inv .4,
-      walking-past _ _ _ _ _ _ _ (place-before _ _ _ _ _ (l .stage) (l .s) _ (c .before .before .loop-test .taken) (l .inv .5)) (c .if1 .left),
+      walking-past _ _ _ _ _ _ _ (place-is _ _ _ _ _ (l .stage) (l .s) (l .i) (l .i - 1 + 1) (omega (arith, c .before .before .loop-test .taken)) (l .inv .5)) (c .if1 .left),
     )
 
 same-length : tie.Need-same-length Inv-loop μ-loop
@@ -96,7 +96,7 @@ same-length-3 c = search needs
 returns : tie.Need-returns Inv-loop μ-loop
 returns c =
     let l = c .before .loop in
-    (l .inv .4, place-first _ _ _ _ _ (l .stage) (l .s) _ (omega arith) (l .inv .5))
+    (l .inv .4, place-is _ _ _ _ _ (l .stage) (l .s) (l .i) 0 (omega arith) (l .inv .5))
 
 pub walk-spec : {M : Type 1} → statement M
 walk-spec =

@@ -3,7 +3,7 @@ use native.Mathlib.Omega.{arith}
 use mathlib.Core.Path.{refl}
 use denote.Ref.{now}
 use Rattle.loc_window.proofs.RowsLaws.{few-rows}
-use Rattle.loc_window.proofs.PlannedLaws.{near-quarters, near-few}
+use Rattle.loc_leaf.proofs.QuarterLaws.{near-quarters, near-few}
 use Rattle.loc_window.proofs.plan.advance.Statement.{statement}
 use Rattle.loc_window.proofs.plan.advance.Tie as tie
 

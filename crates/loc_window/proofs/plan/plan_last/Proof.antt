@@ -4,7 +4,8 @@ use native.Mathlib.Omega.{arith}
 use denote.Ref.{now}
 use Rattle.loc_window.specs.Planned.{Nearing}
 use Rattle.loc_window.proofs.RowsLaws.{few-rows}
-use Rattle.loc_window.proofs.PlannedLaws.{near-few, near-one, nearing-next, nearing-ends}
+use Rattle.loc_leaf.proofs.QuarterLaws.{near-few, near-one}
+use Rattle.loc_window.proofs.PlannedLaws.{nearing-next, nearing-ends}
 use Rattle.loc_window.proofs.plan.plan_last.Statement.{statement}
 use Rattle.loc_window.proofs.plan.plan_last.Tie as tie
 
