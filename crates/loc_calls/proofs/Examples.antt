@@ -24,6 +24,7 @@ use Rattle.loc_calls.specs.Audit.{bodyEndAfter, spanEndAfter, checkpoint
 use Rattle.loc_calls.specs.Calls.{unlessRefused, tooSmall, wholeRefusal, unread, isOpening, refusal, places, placeCount, value, lent, buffer, areasAfter, call, createPlaces, create, audit}
 use Rattle.loc_calls.specs.SpanAt.{holds, refusedBy, crossing, spanAmong, spanAt}
 use Rattle.loc_calls.specs.Parts.{someBelow, thoseBelow, reaches, needed, strange, comesBefore, misplaced, firstFault, pairsRefusal, partsTable, written, partsRefusal, parts}
+use Rattle.loc_calls.specs.Withheld.{onEdge, limited, rowsBefore, withheldLimit, withheld}
 
 -- ---- areas
 
@@ -128,6 +129,22 @@ composites = 5 ∷ 5 ∷ 7 ∷ 7 ∷ 8 ∷ 8 ∷ 9 ∷ []
 
 abbrev components : List ℕ
 components = 1 ∷ 2 ∷ 3 ∷ 5 ∷ 5 ∷ 7 ∷ 4 ∷ []
+
+-- five records, the second and the fourth with a row, as both kinds have them
+abbrev paired5 : Bytes
+paired5 = row Paired 2 (record { strides = 256; spans = 1 }) ++ row Paired 4 (record { strides = 256; spans = 1 })
+
+abbrev five : Kind → Areas
+five Paired = three (area 26 (1 ∷ 1 ∷ 0 ∷ 1 ∷ 1 ∷ 1 ∷ 0 ∷ 1 ∷ 1 ∷ 1 ∷ [])) (area 48 paired5) (area 16 [])
+five Single = three (area 26 (1 ∷ 0 ∷ 0 ∷ 0 ∷ 1 ∷ 0 ∷ 0 ∷ 0 ∷ 1 ∷ 0 ∷ [])) (area 40 (row Single 2 (record { strides = 65536; spans = 0 }) ++ row Single 4 (record { strides = 65536; spans = 0 }))) (area 16 [])
+
+-- the same paired ones with a slot at record 4 that needs no row
+abbrev unneeded : Areas
+unneeded = three (area 26 (1 ∷ 1 ∷ 0 ∷ 1 ∷ 1 ∷ 1 ∷ 1 ∷ 1 ∷ 1 ∷ 1 ∷ [])) (area 48 paired5) (area 16 [])
+
+-- what the call gives at each of these lengths
+abbrev limits : Kind → Areas → List ℕ → List ℕ
+limits k a ds = map (λ (d : ℕ). withheldLimit k d a) ds
 
 -- ---- every number that opening, append, truncation and reading give: 1 to 17 and 22 to 24
 
@@ -298,9 +315,17 @@ pub record Computed : Type 0 where
   composes-in-order : partsNumbers ≡ 1 ∷ 6 ∷ 7 ∷ 15 ∷ 27 ∷ 27 ∷ 28 ∷ 29 ∷ 29 ∷ 16 ∷ []
   -- after a truncation the same lists are turned away
   composes-no-more : (parts composites components 8 (replicate 6 6) ((call Paired 3 (truncate 8) nine) .areas)) .answer ≡ answer 27 0
+  -- below 16 and between edges nothing; at an edge the records before the row there; at the end and past it all
+  limits-paired : limits Paired (five Paired) (0 ∷ 15 ∷ 16 ∷ 17 ∷ 24 ∷ 31 ∷ 32 ∷ 33 ∷ 47 ∷ 48 ∷ 49 ∷ (2 ^ 64 - 1) ∷ []) ≡ 0 ∷ 0 ∷ 1 ∷ 0 ∷ 0 ∷ 0 ∷ 3 ∷ 0 ∷ 0 ∷ 5 ∷ 5 ∷ 5 ∷ []
+  limits-single : limits Single (five Single) (15 ∷ 16 ∷ 27 ∷ 28 ∷ 29 ∷ 32 ∷ 39 ∷ 40 ∷ 41 ∷ []) ≡ 0 ∷ 1 ∷ 0 ∷ 3 ∷ 0 ∷ 0 ∷ 0 ∷ 5 ∷ 5 ∷ []
+  -- a row that does not match its slot cuts nothing
+  limits-unneeded : limits Paired unneeded (16 ∷ 32 ∷ 40 ∷ 48 ∷ []) ≡ 1 ∷ 5 ∷ 0 ∷ 5 ∷ []
+  limits-whole : withheld Paired 32 (five Paired) ≡ record { answer = answer 0 3; buffer = []; areas = five Paired }
+  limits-not-small : (withheld Paired 32 (three (replicate 15 0) (area 16 []) (area 16 []))) .answer ≡ answer 1 0
+  limits-not-behind : (withheld Paired 32 (behind 0 5)) .answer ≡ answer 6 0
 
 pub computed : Computed
-unfolding number bytes numberAt store answer counted storeLength storePast pieces fill published stridesRefusal slot needsRow inline slotAt checkpointRule row rowNumber rowValue rowList ascending lastNumber rowsUpTo rowFor hasRow lookup slotValue matches cuts cutFor sizes count valueOf bodyAfter spanAfter zipped entries uneven spanless breaks entryRefusal entriesRefusal startRefusal endPast batchRefusal table step run differing truncatePlaces nextRow holdsNext cutRule ruledCount ruled openPlaces ragged openRefusal stores anyStores settled checkpoint gather rowOf checkpointOf staged newEnd newEnds appendPlaces sumAfter allAfter lookupAt has valueIn valueAt stridesAfter spansAfter checkpointAt windowEnd lookedAt within rowMissing anyMissing words wordsFor answered found bodyRead spanRead endRead bodyEndAfter spanEndAfter checkpointSound rowFits rowWanted rowSound rowsSound sound unlessRefused tooSmall unread isOpening refusal places value lent buffer areasAfter call createPlaces create audit flatten firstAfter wholeRefusal holds crossing spanAmong spanAt someBelow thoseBelow reaches needed strange comesBefore misplaced firstFault pairsRefusal partsTable written partsRefusal parts
+unfolding number bytes numberAt store answer counted storeLength storePast pieces fill published stridesRefusal slot needsRow inline slotAt checkpointRule row rowNumber rowValue rowList ascending lastNumber rowsUpTo rowFor hasRow lookup slotValue matches cuts cutFor sizes count valueOf bodyAfter spanAfter zipped entries uneven spanless breaks entryRefusal entriesRefusal startRefusal endPast batchRefusal table step run differing truncatePlaces nextRow holdsNext cutRule ruledCount ruled openPlaces ragged openRefusal stores anyStores settled checkpoint gather rowOf checkpointOf staged newEnd newEnds appendPlaces sumAfter allAfter lookupAt has valueIn valueAt stridesAfter spansAfter checkpointAt windowEnd lookedAt within rowMissing anyMissing words wordsFor answered found bodyRead spanRead endRead bodyEndAfter spanEndAfter checkpointSound rowFits rowWanted rowSound rowsSound sound unlessRefused tooSmall unread isOpening refusal places value lent buffer areasAfter call createPlaces create audit flatten firstAfter wholeRefusal holds crossing spanAmong spanAt someBelow thoseBelow reaches needed strange comesBefore misplaced firstFault pairsRefusal partsTable written partsRefusal parts onEdge limited rowsBefore withheldLimit withheld
 computed = record {
   refusals = refl;
   ordered = refl;
@@ -362,4 +387,10 @@ computed = record {
   composes-nothing = refl;
   composes-in-order = refl;
   composes-no-more = refl;
+  limits-paired = refl;
+  limits-single = refl;
+  limits-unneeded = refl;
+  limits-whole = refl;
+  limits-not-small = refl;
+  limits-not-behind = refl;
 }

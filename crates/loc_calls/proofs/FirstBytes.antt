@@ -1,12 +1,16 @@
 -- Bytes 0 to 7 of an area are neither read nor written: whatever takes bytes looks from byte 8 on, or past an area's end.
 -- An area may be of any length: one under 16 bytes counts as its length, past which there is nothing.
-use Prim.Native.Nat.{ℕ, zero, suc, _+_, _-_, _*_, _≤_, min}
+use Prim.Native.Nat.{ℕ, zero, suc, _+_, _-_, _*_, _%_, _≤_, min}
 use mathlib.Core.Path.{_≡_, refl, ap, _∙_, subst, fun-ext}
+use mathlib.Core.Logic.{_⊎_, inl, inr}
+use mathlib.Core.Bool.{true, false}
 use mathlib.Core.List.{List, [], _∷_}
 use native.Mathlib.Nat.{add-sub-of-le}
 use native.Mathlib.Omega.{arith}
+use lib.Dec.{leb, eqb}
 use lib.ListN.{length, take, drop}
 use lib.Seq.{drop-drop}
+use borrow.Author.Tests.{leb-true}
 use Rattle.loc_leaf.specs.declared.Kind.{Kind}
 use Rattle.loc_leaf.specs.declared.Kind.the-variants.{Paired, Single}
 use Rattle.loc_leaf.specs.Bytes.{Bytes, bytes, numberAt, store}
@@ -16,6 +20,7 @@ use Rattle.loc_leaf.specs.Kind.{rowWidth, checkpointWidth}
 use Rattle.loc_leaf.specs.Slot.{slotAt}
 use Rattle.loc_leaf.specs.Rows.{rowList}
 use Rattle.loc_leaf.specs.Cut.{cuts, cutFor}
+use Rattle.loc_leaf.proofs.Booleans.{is?, both-left}
 use Rattle.loc_leaf.proofs.Stored.{length-store, take-store, drop-store-add}
 use Rattle.loc_leaf.proofs.AreaLaws.{take-min, drop-min, length-storePast}
 use Rattle.loc_calls.specs.Areas.{Three, each, Areas, sizes, count}
@@ -25,8 +30,9 @@ use Rattle.loc_calls.specs.Reading.{lookupAt, valueAt, stridesAfter, spa
 use Rattle.loc_calls.specs.Audit.{bodyEndAfter, spanEndAfter, checkpointSound, rowSound, rowsSound, sound}
 use Rattle.loc_calls.specs.SpanAt.{spanAmong, spanAt, spanAtOutcome}
 use Rattle.loc_calls.specs.Parts.{partsRefusal, parts}
+use Rattle.loc_calls.specs.Withheld.{onEdge, limited, rowsBefore, withheldLimit, withheld}
 use Rattle.loc_calls.specs.Calls.{unlessRefused, tooSmall, firstRefusal, wholeRefusal, unread, refusal, places, buffer, areasAfter, call, createPlaces, create, audit}
-use Rattle.loc_calls.specs.Guarantees.{AnyCall, indexCall, creation, auditing, locating, composing, outcome, SameFrom8, SameOutcome, Unread, FirstBytesUnread, Unwritten, FirstBytesUnwritten}
+use Rattle.loc_calls.specs.Guarantees.{AnyCall, indexCall, creation, auditing, locating, composing, limiting, outcome, SameFrom8, SameOutcome, Unread, FirstBytesUnread, Unwritten, FirstBytesUnwritten}
 
 -- ---- one area
 
@@ -260,12 +266,22 @@ module _ (k : Kind) {a b : Areas} (h : AllSame a b) where
   unfolding areasAfter
   after-same s c = rw (refusal-same c, places-same c) (unless-same (refusal k c b) (run-same s (places k c b) h) h)
 
+  -- a row on an edge lies at 16 or later
+  limit-same : (d : ℕ) → withheldLimit k d a ≡ withheldLimit k d b
+  unfolding withheldLimit limited rowsBefore cutFor cuts onEdge
+  limit-same d = go (is? (onEdge k d))
+    where
+      go : (onEdge k d ≡ true) ⊎ (onEdge k d ≡ false) → withheldLimit k d a ≡ withheldLimit k d b
+      go (inl e) =
+          rw (drop-same (h .rows) d (omega (arith, leb-true 16 d (both-left (leb 16 d) (eqb ((d - 16) % rowWidth k) 0) e))), counted-same (h .rows), rows-same k h, count-same k h, slot-same (h .slots)) refl
+      go (inr e) = rw (e, counted-same (h .rows), count-same k h) refl
+
 located-same : {a b : Areas} → AllSame a b → (x : ℕ) → spanAt a x ≡ spanAt b x
 unfolding spanAt wholeRefusal spanAmong
 located-same h x = rw (first-same Paired h, count-same Paired h, lookup-same Paired h, words-same Paired h) refl
 
 outcome-same : (c : AnyCall) {a b : Areas} → AllSame a b → SameOutcome (outcome c a) (outcome c b)
-unfolding outcome call create audit spanAtOutcome parts partsRefusal
+unfolding outcome call create audit spanAtOutcome parts partsRefusal withheld
 outcome-same (indexCall k s c) h = record {
   answer = rw (refusal-same k h c, count-same k (after-same k h s c)) refl;
   buffer = rw (refusal-same k h c, words-same k h) refl;
@@ -279,6 +295,7 @@ outcome-same creation {b = b} h = record {
 outcome-same (auditing k) h = record { answer = rw (small-same h, settled-same k h, sound-same k h) refl; buffer = refl; areas = whole h }
 outcome-same (locating x) h = record { answer = rw (located-same h x) refl; buffer = rw (located-same h x) refl; areas = whole h }
 outcome-same (composing cs ps x out) h = record { answer = rw (first-same Paired h, count-same Paired h) refl; buffer = rw (first-same Paired h, count-same Paired h) refl; areas = whole h }
+outcome-same (limiting k d) h = record { answer = rw (first-same k h, limit-same k h d) refl; buffer = refl; areas = whole h }
 
 pub first-bytes-unread : FirstBytesUnread
 unfolding FirstBytesUnread Unread
@@ -315,9 +332,10 @@ kept-unless zero d a h = h
 kept-unless (suc n) d a h = refl
 
 pub first-bytes-unwritten : FirstBytesUnwritten
-unfolding FirstBytesUnwritten Unwritten outcome call areasAfter create audit spanAtOutcome parts
+unfolding FirstBytesUnwritten Unwritten outcome call areasAfter create audit spanAtOutcome parts withheld
 first-bytes-unwritten (indexCall k s c) a = kept-unless (refusal k c a) (run s (places k c a) a) a (kept-run s (places k c a) a)
 first-bytes-unwritten creation a = kept-unless (refuse (tooSmall a) 1) (run 3 createPlaces a) a (kept-run 3 createPlaces a)
 first-bytes-unwritten (auditing k) a = refl
 first-bytes-unwritten (locating x) a = refl
 first-bytes-unwritten (composing cs ps x out) a = refl
+first-bytes-unwritten (limiting k d) a = refl

@@ -25,8 +25,9 @@ use Rattle.loc_calls.specs.Reading.{firstAfter, complete, within, wordsF
 use Rattle.loc_calls.specs.Calls.{unlessRefused, tooSmall, firstRefusal, wholeRefusal, unread, isOpening, tableOf, refusal, call, create, audit}
 use Rattle.loc_calls.specs.SpanAt.{holds, refusedBy, crossing, spanAmong, spanAt, spanAtOutcome}
 use Rattle.loc_calls.specs.Parts.{someBelow, strange, misplaced, needed, firstFault, pairsRefusal, partsTable, partsRefusal, parts}
+use Rattle.loc_calls.specs.Withheld.{withheld}
 use Rattle.loc_calls.specs.Promises.{Stored}
-use Rattle.loc_calls.specs.Guarantees.{indexCall, creation, auditing, locating, composing, outcome, lentTo, largest, InTable, NumbersOfTable, LeavesAll, RefusalsLeaveAll}
+use Rattle.loc_calls.specs.Guarantees.{indexCall, creation, auditing, locating, composing, limiting, outcome, lentTo, largest, InTable, NumbersOfTable, LeavesAll, RefusalsLeaveAll}
 use Rattle.loc_calls.proofs.Outcomes.{refused}
 
 -- ---- the table's numbers
@@ -150,12 +151,13 @@ composed-in cs ps x out a =
     (test 16 (ltb (length out) (length (needed cs ps x))) refl))
 
 pub numbers-of-table : NumbersOfTable
-unfolding NumbersOfTable InTable outcome call create audit spanAtOutcome parts
+unfolding NumbersOfTable InTable outcome call create audit spanAtOutcome parts withheld
 numbers-of-table (indexCall k s c) a = rw number-is (refusal-in k c a)
 numbers-of-table creation a = rw number-is (small-in a)
 numbers-of-table (auditing k) a = rw number-is (first-in k a)
 numbers-of-table (locating x) a = rw number-is (located-in a x)
 numbers-of-table (composing cs ps x out) a = rw number-is (composed-in cs ps x out a)
+numbers-of-table (limiting k d) a = rw number-is (first-in k a)
 
 -- ---- refusals
 
@@ -183,7 +185,7 @@ none-located a x = go (wholeRefusal Paired a) (firstAfter (holds (wordsFor Paire
     go (suc n) id h = refl
 
 pub refusals-leave-all : RefusalsLeaveAll
-unfolding RefusalsLeaveAll LeavesAll outcome lentTo call create audit spanAtOutcome parts
+unfolding RefusalsLeaveAll LeavesAll outcome lentTo call create audit spanAtOutcome parts withheld
 refusals-leave-all (indexCall k s c) a h = record { value = ap (λ (r : Answer). r .value) (sym (left .0)); buffer = kept (refusal k c a) _ _ _ h; areas = sym (left .1) }
   where
     left : Stored (call k s c a) (record { number = refusal k c a; value = 0 }) a
@@ -196,3 +198,4 @@ refusals-leave-all (locating x) a h = record {
   areas = refl;
 }
 refusals-leave-all (composing cs ps x out) a h = record { value = value-0 (partsRefusal cs ps x out a) _ h; buffer = kept (partsRefusal cs ps x out a) _ _ out h; areas = refl }
+refusals-leave-all (limiting k d) a h = record { value = value-0 (firstRefusal k a) _ h; buffer = refl; areas = refl }

@@ -10,16 +10,19 @@ use Rattle.loc_calls.specs.Table.{Call}
 use Rattle.loc_calls.specs.Calls.{Outcome, lent, call, create, audit}
 use Rattle.loc_calls.specs.SpanAt.{spanAtOutcome}
 use Rattle.loc_calls.specs.Parts.{parts}
+use Rattle.loc_calls.specs.Withheld.{withheld}
 
 -- ---- every call
 
--- open, append, truncate and read of a kind, at s places; create; audit of a kind; span_at an address; the parts of a record
+-- open, append, truncate and read of a kind, at s places; create; audit of a kind; span_at an address; the parts of a record; how many
+-- records are durable at a length of the rows
 pub data AnyCall : Type 0 where
   indexCall : Kind → ℕ → Call → AnyCall
   creation : AnyCall
   auditing : Kind → AnyCall
   locating : ℕ → AnyCall
   composing : List ℕ → List ℕ → ℕ → List ℕ → AnyCall
+  limiting : Kind → ℕ → AnyCall
 
 unfoldable pub outcome : AnyCall → Areas → Outcome
 outcome (indexCall k s c) a = call k s c a
@@ -27,6 +30,7 @@ outcome creation a = create a
 outcome (auditing k) a = audit k a
 outcome (locating x) a = spanAtOutcome x a
 outcome (composing cs ps x out) a = parts cs ps x out a
+outcome (limiting k d) a = withheld k d a
 
 -- the answer buffer as it was lent: a reading has one, as parts has, and the three words of span_at begin as 0
 unfoldable pub lentTo : AnyCall → List ℕ
@@ -35,6 +39,7 @@ lentTo creation = []
 lentTo (auditing k) = []
 lentTo (locating x) = 0 ∷ 0 ∷ 0 ∷ []
 lentTo (composing cs ps x out) = out
+lentTo (limiting k d) = []
 
 -- ---- numbers and refusals
 

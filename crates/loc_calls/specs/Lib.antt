@@ -6,5 +6,6 @@ pub mod Audit
 pub mod Calls
 pub mod SpanAt
 pub mod Parts
+pub mod Withheld
 pub mod Promises
 pub mod Guarantees
