@@ -26,6 +26,7 @@ use Rattle.loc_leaf.proofs.Booleans.{is?}
 use Rattle.loc_calls.specs.Areas.{Areas, areas, count}
 use Rattle.loc_calls.specs.Reading.{sumAfter, allAfter, lookupAt, has, valueAt, stridesAfter, spansAfter, windowEnd}
 use Rattle.loc_calls.specs.Audit.{bodyEndAfter, spanEndAfter, bothEnds, checkpointSound, rowFits, rowWanted, rowsSound, sound}
+use Rattle.loc_calls.proofs.Reading.{all-fails}
 use Rattle.loc_rows.specs.declared.Row.{Row}
 use Rattle.loc_rows.specs.Reader.{rowAt, rowsFrom, isEnd}
 use Rattle.loc_rows.proofs.ReaderLaws.{row-none, rows-lent}
@@ -37,20 +38,9 @@ use Rattle.loc_audit.proofs.RowPassLaws.{Left, ownWanted, soundFrom, Tu
 
 -- ---- over the numbers from 1 on
 
-module _ (f : ℕ → Bool) where
-  all-next : (n : ℕ) → allAfter f 0 n ≡ true → f (suc n) ≡ true → allAfter f 0 (suc n) ≡ true
-  unfolding allAfter
-  all-next n a h = rw (a, zero-add (suc n), h) refl
-
-  -- one that fails
-  all-fails : (n i : ℕ) → i < n → f (suc i) ≡ false → allAfter f 0 n ≡ false
-  unfolding allAfter
-  all-fails zero i h e = absurd (not-suc-le-zero h)
-  all-fails (suc n) i h e =
-      ⊎-elim
-      (λ (q : i ≡ n). rw (zero-add (suc n)) (ap (λ (b : Bool). allAfter f 0 n && b) (ap (λ (j : ℕ). f (suc j)) (sym q) ∙ e) ∙ and-false (allAfter f 0 n)))
-      (λ (l : i < n). ap (λ (b : Bool). b && f (0 + suc n)) (all-fails n i l e))
-      (eq-or-lt-of-le (le-of-suc-le-suc h))
+all-next : (f : ℕ → Bool) (n : ℕ) → allAfter f 0 n ≡ true → f (suc n) ≡ true → allAfter f 0 (suc n) ≡ true
+unfolding allAfter
+all-next f n a h = rw (a, zero-add (suc n), h) refl
 
 sum-grows : (f : ℕ → ℕ) (m n d : ℕ) → sumAfter f m n ≤ sumAfter f m (n + d)
 unfolding sumAfter

@@ -17,4 +17,5 @@ pub mod Lowest
 pub mod Located
 pub mod Members
 pub mod Needed
+pub mod Durable
 pub mod Examples

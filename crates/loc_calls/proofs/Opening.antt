@@ -159,7 +159,7 @@ rule-keeps l c n hc hl hn = go (is? (ltb c (l / 1024)))
 
 -- ---- the count that the cut rule keeps, where no checkpoint is lacking
 
-cut-keeps : (k : Kind) (a : Areas) (E : List Entry) (r c n : ℕ) → State k a E r c → Kept k E r c n → length E / 1024 ≤ c → cutRule k a ≡ n
+pub cut-keeps : (k : Kind) (a : Areas) (E : List Entry) (r c n : ℕ) → State k a E r c → Kept k E r c n → length E / 1024 ≤ c → cutRule k a ≡ n
 cut-keeps k a E r c n s p h = go (decLe (suc r) (length (rowsOf k E)))
   where
     rows-lack : n < length E → (c < suc n / 1024) ⊎ (r < rowsIn k E (suc n)) → r < rowsIn k E (suc n)

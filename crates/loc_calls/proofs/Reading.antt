@@ -1,19 +1,19 @@
 -- What a reading finds in areas that hold a good list whole: every row, and the words of each record.
 -- The sums over a window and the checkpoints are sums of the list's lengths.
 use Prim.Native.Nat.{ℕ, zero, suc, _+_, _-_, _*_, _/_, _%_, _^_, _≤_, _<_}
-use mathlib.Core.Path.{_≡_, refl, ap, _∙_, subst}
-use mathlib.Core.Logic.{_⊎_, inl, inr}
-use mathlib.Core.Bool.{Bool, true, false, cond, not, _&&_, _||_, or-true}
+use mathlib.Core.Path.{_≡_, refl, sym, ap, _∙_, subst}
+use mathlib.Core.Logic.{_⊎_, inl, inr, ⊎-elim}
+use mathlib.Core.Bool.{Bool, true, false, cond, not, _&&_, _||_, and-false, or-true}
 use mathlib.Core.List.{List, [], _∷_, _++_, append-nil}
-use native.Mathlib.Nat.{add-zero, add-suc, le-refl, mul-suc, add-sub-cancel-left}
+use native.Mathlib.Nat.{zero-add, add-zero, add-suc, le-refl, eq-or-lt-of-le, le-of-suc-le-suc, not-suc-le-zero, mul-suc, add-sub-cancel-left}
 use native.Mathlib.Omega.{arith}
 use lib.Dec.{leb, ltb, eqb}
-use lib.ListN.{length, take, drop, getD, replicate}
-use lib.Seq.{take-take, take-length, length-take-le, take-all, split-at, getD-at, take-suc}
+use lib.ListN.{length, take, drop, getD, replicate, length-take}
+use lib.Seq.{take-take, take-length, length-take-le, take-all, split-at, getD-at, getD-take, take-suc}
 use borrow.Author.Tests.{eq-eqb, ne-eqb, ltb-true, leb-true}
 use Rattle.loc_leaf.specs.declared.Kind.{Kind}
 use Rattle.loc_leaf.specs.declared.Kind.the-variants.{Paired, Single}
-use Rattle.loc_leaf.specs.declared.delta_loc.Lookup.the-variants.{Found}
+use Rattle.loc_leaf.specs.declared.delta_loc.Lookup.the-variants.{Found, Missing}
 use Rattle.loc_leaf.specs.Bytes.{Bytes, bytes, numberAt}
 use Rattle.loc_leaf.specs.Area.{published}
 use Rattle.loc_leaf.specs.Kind.{checkpointWidth}
@@ -59,6 +59,16 @@ unfolding hasRow
 has-row m [] r ts e = rw (eq-eqb (rowNumber r) (suc m) e) refl
 has-row m (x ∷ rs) r ts e = ap (λ (b : Bool). eqb (rowNumber x) (suc m) || b) (has-row m rs r ts e) ∙ or-true (eqb (rowNumber x) (suc m))
 
+has-no-row : (m : ℕ) (rs : List Bytes) → Below m rs → hasRow (suc m) rs ≡ false
+unfolding Below hasRow
+has-no-row m [] h = refl
+has-no-row m (x ∷ rs) h = rw (ne-eqb (rowNumber x) (suc m) (λ z. omega (arith, h .0))) (has-no-row m rs (h .1))
+
+-- a record that needs a row has none among those of the records before it
+pub lacks-row : (k : Kind) (es : List Entry) (s : Bytes) → length es < 2 ^ 64 → needsRow k s ≡ true → slotValue k (rowsOf k es) (suc (length es)) s ≡ Missing
+unfolding slotValue lookup
+lacks-row k es s h t = rw (t, has-no-row (length es) (rowsOf k es) (rows-below k 0 (length es) es (omega arith) h)) refl
+
 -- a valid record's slot, with its row among rows of records before and after, says its value
 slot-value : (k : Kind) (m : ℕ) (rs : List Bytes) (e : Entry) (ts : List Bytes) → Valid k (valueOf e) → suc m < 2 ^ 64 → Below m rs
     → slotValue k (rs ++ (rowOf k (suc m) e ++ ts)) (suc m) (slot k (valueOf e)) ≡ Found (valueOf e)
@@ -86,6 +96,16 @@ pub all-are : (f : ℕ → Bool) (m n : ℕ) → ((i : ℕ) → i < m + n → f 
 unfolding allAfter
 all-are f m zero h = refl
 all-are f m (suc n) h = rw (all-are f m n (λ i q. h i (omega arith)), add-suc m n, h (m + n) (omega arith)) refl
+
+-- one of those from 1 on fails
+pub all-fails : (f : ℕ → Bool) (n i : ℕ) → i < n → f (suc i) ≡ false → allAfter f 0 n ≡ false
+unfolding allAfter
+all-fails f zero i h e = absurd (not-suc-le-zero h)
+all-fails f (suc n) i h e =
+    ⊎-elim
+    (λ (q : i ≡ n). rw (zero-add (suc n)) (ap (λ (b : Bool). allAfter f 0 n && b) (ap (λ (j : ℕ). f (suc j)) (sym q) ∙ e) ∙ and-false (allAfter f 0 n)))
+    (λ (l : i < n). ap (λ (b : Bool). b && f (0 + suc n)) (all-fails f n i l e))
+    (eq-or-lt-of-le (le-of-suc-le-suc h))
 
 -- ---- one record
 
@@ -144,17 +164,24 @@ module _ (k : Kind) (a : Areas) (E : List Entry) (s : Full k a E) where
     slot-is : slotAt (a .slots) (suc i) ≡ slot k (valueOf e)
     slot-is = rw here at (slot-at k a E _ _ s (take i E) e (drop (suc i) E) split)
 
-    rows-split : rowList k (a .rows) ≡ rowsOf k (take i E) ++ (rowOf k (suc i) e ++ gather (rowOf k) (suc i) (drop (suc i) E))
+    -- the rows of the first n records, of which it is one
+    rows-split : (n : ℕ) → i < n → rowsOf k (take n E) ≡ rowsOf k (take i E) ++ (rowOf k (suc i) e ++ gather (rowOf k) (suc i) (drop (suc i) (take n E)))
     unfolding gather
-    rows-split = rows-are ∙ ap (gather (rowOf k) 0) split ∙ rw here at (gather-after (rowOf k) (take i E) (e ∷ drop (suc i) E))
+    rows-split n g = ap (gather (rowOf k) 0) first ∙ rw here at (gather-after (rowOf k) (take i E) (e ∷ drop (suc i) (take n E)))
+      where
+        first : take n E ≡ take i E ++ (e ∷ drop (suc i) (take n E))
+        first = rw (take-take i n E (omega arith), getD-take n E i none g) at (split-at (take n E) i none (rw (length-take n E) (omega arith)))
 
     -- slot and row say the record's value
+    pub among-first : (n : ℕ) → i < n → slotValue k (rowsOf k (take n E)) (suc i) (slotAt (a .slots) (suc i)) ≡ Found (valueOf e)
+    among-first n g =
+        rw (rows-split n g, slot-is)
+        (slot-value k i (rowsOf k (take i E)) e (gather (rowOf k) (suc i) (drop (suc i) (take n E))) (e-valid .value) (omega (arith, few k a E _ _ s))
+        (rows-below k 0 i (take i E) (omega (arith, here)) (omega (arith, few k a E _ _ s))))
+
     pub lookup-is : lookupAt k a (suc i) ≡ Found (valueOf e)
     unfolding lookupAt
-    lookup-is =
-        rw (rows-split, slot-is)
-        (slot-value k i (rowsOf k (take i E)) e (gather (rowOf k) (suc i) (drop (suc i) E)) (e-valid .value) (omega (arith, few k a E _ _ s))
-        (rows-below k 0 i (take i E) (omega (arith, here)) (omega (arith, few k a E _ _ s))))
+    lookup-is = rw rows-are (rw (take-length E) at (among-first (length E) h))
 
     value-is : valueAt k a (suc i) ≡ valueOf e
     unfolding valueAt valueIn

@@ -70,12 +70,12 @@ truncatePlaces k n a = checkpointsTo a (endsAt k n (a .rows)) ∷ rowsTo a (ends
 -- ---- opening
 
 -- the bytes at a place are read as a row,
-abbrev pub rowAt : Kind → ℕ → Bytes → Bytes
-rowAt k at rows = take (rowWidth k) (drop at rows)
+abbrev pub rowBytesAt : Kind → ℕ → Bytes → Bytes
+rowBytesAt k at rows = take (rowWidth k) (drop at rows)
 
 -- here those just past the published rows,
 unfoldable pub nextRow : Kind → Bytes → Bytes
-nextRow k rows = rowAt k (counted rows) rows
+nextRow k rows = rowBytesAt k (counted rows) rows
 
 -- if the area holds that many
 unfoldable pub holdsNext : Kind → Bytes → Bool

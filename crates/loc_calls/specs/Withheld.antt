@@ -16,7 +16,7 @@ use Rattle.loc_leaf.specs.Slot.{slotAt}
 use Rattle.loc_leaf.specs.Rows.{rowList, lastNumber, slotValue}
 use Rattle.loc_leaf.specs.Cut.{cutFor}
 use Rattle.loc_calls.specs.Areas.{Areas, count}
-use Rattle.loc_calls.specs.Stores.{rowAt}
+use Rattle.loc_calls.specs.Stores.{rowBytesAt}
 use Rattle.loc_calls.specs.Reading.{allAfter, has}
 use Rattle.loc_calls.specs.Calls.{Outcome, firstRefusal}
 
@@ -36,7 +36,7 @@ rowsBefore k d rows = take ((d - 16) / rowWidth k) (rowList k rows)
 unfoldable pub withheldLimit : Kind → ℕ → Areas → ℕ
 withheldLimit k d a =
     limited k d (counted (a .rows)) (count a)
-    (cutFor k (a .slots) (count a) (lastNumber 0 (rowsBefore k d (a .rows))) (rowAt k d (a .rows)))
+    (cutFor k (a .slots) (count a) (lastNumber 0 (rowsBefore k d (a .rows))) (rowBytesAt k d (a .rows)))
 
 -- 1 and 6 apply
 unfoldable pub withheld : Kind → ℕ → Areas → Outcome

@@ -159,7 +159,7 @@ steady-stores k a L t = record {
 
 -- where no opening is awaited
 module _ (k : Kind) (a : Areas) (z : AllSized a) (es : List Event) (lawful : Lawful k (sizes a) false [] es) (q : awaits false es ≡ false) where
-  steady-at-end : Steady k (indexAtEnd k ((create a) .areas) es) (bookAtEnd k (sizes a) [] es)
+  pub steady-at-end : Steady k (indexAtEnd k ((create a) .areas) es) (bookAtEnd k (sizes a) [] es)
   unfolding Ready
   steady-at-end = subst (λ (w : Bool). Ready w k (indexAtEnd k ((create a) .areas) es) (bookAtEnd k (sizes a) [] es)) q (at-end k a z es lawful)
 

@@ -7,3 +7,4 @@ pub mod Numbers
 pub mod Kept
 pub mod Located
 pub mod Composed
+pub mod Durable

@@ -70,7 +70,7 @@ module _ (k : Kind) (a : Areas) (L : List Rec) (t : Steady k a L) where
   rows-held : rowCount k L ≡ length (rowsOf k (t .E))
   rows-held = ap (rowCount k) (t .is) ∙ row-count k 0 (t .E) (t .full .valid)
 
-  checkpoints-held : checkpointCount L ≡ length (t .E) / 1024
+  pub checkpoints-held : checkpointCount L ≡ length (t .E) / 1024
   unfolding checkpointCount
   checkpoints-held = ap (λ (i : ℕ). i / 1024) same-length
 

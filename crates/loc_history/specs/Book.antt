@@ -18,6 +18,7 @@ use Rattle.loc_calls.specs.Reading.{within}
 use Rattle.loc_calls.specs.Calls.{unlessRefused, value, lent, buffer}
 use Rattle.loc_calls.specs.SpanAt.{spanAmong}
 use Rattle.loc_calls.specs.Parts.{needed, partsTable, written}
+use Rattle.loc_calls.specs.Withheld.{limited}
 
 -- it holds the records' lengths and, where paired, span counts (0 where single)
 pub record Rec : Type 0 where
@@ -148,3 +149,10 @@ bookTorn k s L opening = L
 bookTorn k s L (append b) = appendTorn k s L (L ++ records k b)
 bookTorn k s L (truncate w) = truncateTorn k s L (take w L)
 bookTorn k s L (read ids out) = L
+
+-- ---- durable rows
+
+-- how many records are durable where the rows have reached length d (document 02, Item 10): at an edge before its own rows' end as many as
+-- the longest first part has with no more rows than lie before it
+unfoldable pub bookWithheld : Kind → ℕ → List Rec → ℕ
+bookWithheld k d L = limited k d ((bookEnds k L) .rows) (length L) (length (longestPart k (checkpointCount L) ((d - 16) / rowWidth k) L))
