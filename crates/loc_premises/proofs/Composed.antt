@@ -18,7 +18,7 @@ use Rattle.loc_premises.specs.Composed.{fourAppended, threeKept, composi
 use Rattle.loc_premises.proofs.Examples.{everything, computed}
 use Rattle.loc_premises.proofs.Listed.{listings}
 
-four-lawful : AllLawful (sizes small) false [] fourAppended
+pub four-lawful : AllLawful (sizes small) false [] fourAppended
 unfolding listings
 four-lawful = (((λ p. p), ((omega arith, (omega arith, tt)), λ _. (omega arith, omega arith))), (((λ p. p), ((omega arith, (omega arith, tt)), λ _. (omega arith, omega arith))), tt))
 

@@ -2,3 +2,4 @@ pub mod Examples
 pub mod Listed
 pub mod Located
 pub mod Composed
+pub mod Durable

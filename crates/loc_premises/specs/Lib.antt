@@ -4,3 +4,4 @@ pub mod Broken
 pub mod Listed
 pub mod Located
 pub mod Composed
+pub mod Durable

@@ -7,3 +7,4 @@ pub mod RoundTrip
 pub mod Loads
 pub mod Located
 pub mod Composed
+pub mod Durable
