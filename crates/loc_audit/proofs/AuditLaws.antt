@@ -1,8 +1,7 @@
 -- Audit's answer in the form in which the code meets it, and what number 6 has tested of the areas.
 -- Of an inner crate.
-use Prim.Native.Nat.{ℕ, zero, suc}
 use mathlib.Core.Path.{_≡_, refl}
-use mathlib.Core.Bool.{Bool, true, false, cond}
+use mathlib.Core.Bool.{Bool, true, false}
 use Rattle.loc_leaf.specs.declared.Kind.{Kind}
 use Rattle.loc_leaf.specs.Bytes.{Bytes}
 use Rattle.loc_leaf.specs.declared.Answer.{Answer}
@@ -10,6 +9,7 @@ use Rattle.loc_leaf.specs.Answers.{acceptedWith, refusedBy, answer}
 use Rattle.loc_calls.specs.Areas.{areas, count}
 use Rattle.loc_calls.specs.Audit.{sound}
 use Rattle.loc_calls.specs.Calls.{audit}
+use Rattle.loc_calls.proofs.Outcomes.{answer-refused}
 use Rattle.loc_store.specs.declared.Checked.{Checked}
 use Rattle.loc_store.specs.Areas.{Checks}
 use Rattle.loc_store.proofs.SettledLaws.{accepted-ascends, accepted-checkpointed}
@@ -17,12 +17,8 @@ use Rattle.loc_audit.specs.Pass.{Auditable}
 
 module _ (k : Kind) (s r c : Bytes) (f : Checked) (e : Checks k (areas s r c) f) (x : Answer) where
   pub audit-refused : (f .number ≡ 0 → ⊥) → x ≡ refusedBy (f .number) → x ≡ audit k (areas s r c) .answer
-  unfolding audit answer
-  audit-refused h y = rw (y, ← e .number) (refused (f .number) h)
-    where
-      refused : (m : ℕ) → (m ≡ 0 → ⊥) → refusedBy m ≡ answer m (cond (sound k (areas s r c)) 1 0)
-      refused zero q = absurd (q refl)
-      refused (suc m) q = refl
+  unfolding audit
+  audit-refused h y = rw (y, ← e .number, answer-refused (f .number) _ h) refl
 
   module _ (h : f .number ≡ 0) (b : Bool) (eb : b ≡ sound k (areas s r c)) where
     pub audit-sound : b ≡ true → x ≡ acceptedWith 1 → x ≡ audit k (areas s r c) .answer

@@ -5,7 +5,7 @@ use mathlib.Core.Path.{_≡_, refl, sym}
 use mathlib.Core.Bool.{false, not}
 use mathlib.Core.List.{List}
 use Rattle.loc_leaf.specs.declared.Kind.{Kind}
-use Rattle.loc_leaf.specs.Answers.{refuse, _orElse_, answer}
+use Rattle.loc_leaf.specs.Answers.{refuse, _orElse_, refusedBy, answer}
 use Rattle.loc_leaf.proofs.Refusals.{orElse-assoc}
 use Rattle.loc_calls.specs.Areas.{Areas, count}
 use Rattle.loc_calls.specs.Table.{Call, read}
@@ -23,6 +23,12 @@ module _ (k : Kind) (s : ℕ) (c : Call) (a : Areas) where
   pub accepted : (d : Areas) → refusal k c a ≡ 0 → d ≡ run s (places k c a) a → Stored (call k s c a) (record { number = 0; value = value c (count d) }) d
   unfolding call areasAfter unlessRefused answer
   accepted d e q = (rw (e, ← q) refl, rw e q)
+
+-- a refusal's answer, whatever value its call would give
+pub answer-refused : (n v : ℕ) → (n ≡ 0 → ⊥) → answer n v ≡ refusedBy n
+unfolding answer
+answer-refused zero v h = absurd (h refl)
+answer-refused (suc n) v h = refl
 
 -- 1, then 6, then the table and 17
 pub refusal-after : (k : Kind) (c : Call) (a : Areas) (n : ℕ) → isOpening c ≡ false → n ≡ firstRefusal k a

@@ -113,6 +113,10 @@ module _ (k : Kind) (xs : Bytes) (p : ℕ) (h : p ≤ fill (rowWidth k) xs) (g :
           sym (last-some k (fitted (counted xs) end xs) p (sym rows-fill) (rowWidth k) _ refl (wide k) (λ z. omega arith) (row-before q e))
           ∙ rw (lt-ltb 16 end (past (rowWidth k) p q (wide k) e)) refl
 
+  -- the last of the first p rows is the one before their end
+  pub first-last : lastNumber 0 (take p (rowList k xs)) ≡ numberBefore k xs end
+  first-last = ap (lastNumber 0) (sym rows-first) ∙ rows-last
+
 -- the rule keeps no more than there are
 pub rule-le : (n k : ℕ) → checkpointRule n k ≤ n
 unfolding checkpointRule

@@ -279,7 +279,11 @@ module _ (k : Kind) (s r c : Bytes) (g : HoldHeaders (areas s r c)) (z : openRef
           go (inl t) = rw (t, eqb-true m n t, none-differs) refl
           go (inr t) = rw (t, slots-differ m (eqb-false m n t)) refl
 
--- a settled index has a checkpoint for each whole window
+-- a settled index has a whole number of rows
+pub accepted-rows : (k : Kind) (s r c : Bytes) (n : ℕ) → n ≡ firstRefusal k (areas s r c) → n ≡ 0 → counted r ≡ 16 + rowWidth k * fill (rowWidth k) r
+accepted-rows k s r c n e h = whole-rows k s r c (accepted-sized k s r c n e h) (accepted-opens k s r c n e h)
+
+-- and a checkpoint for each whole window
 pub accepted-checkpointed : (k : Kind) (s r c : Bytes) (n : ℕ) → n ≡ firstRefusal k (areas s r c) → n ≡ 0 → fill (checkpointWidth k) c ≡ fill 2 s / 1024
 accepted-checkpointed k s r c n e h = go (is? (eqb (fill (checkpointWidth k) c) (fill 2 s / 1024)))
   where

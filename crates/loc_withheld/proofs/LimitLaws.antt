@@ -1,0 +1,112 @@
+-- The limit in the form in which the code meets it, and that it is what loc_calls says of areas that number 6 lets pass.
+-- There the rows are whole, so the row at an edge below their end is one of them.
+use Prim.Native.Nat.{ℕ, suc, _+_, _-_, _*_, _/_, _%_, _^_, _≤_, _<_}
+use mathlib.Core.Path.{_≡_, refl, ap}
+use mathlib.Core.Logic.{_⊎_, inl, inr}
+use mathlib.Core.Bool.{true, false}
+use native.Mathlib.Nat.{mul-suc, mul-le-mul-left}
+use native.Mathlib.Omega.{arith}
+use lib.Dec.{leb, eqb}
+use lib.ListN.{length}
+use borrow.Author.Tests.{le-leb, lt-leb, leb-true, leb-false, eq-eqb, ne-eqb, eqb-true}
+use Rattle.loc_leaf.specs.declared.Kind.{Kind}
+use Rattle.loc_leaf.specs.declared.Kind.the-variants.{Paired, Single}
+use Rattle.loc_leaf.specs.declared.Answer.{Answer}
+use Rattle.loc_leaf.specs.Bytes.{Bytes}
+use Rattle.loc_leaf.specs.Answers.{acceptedWith, refusedBy, answer}
+use Rattle.loc_leaf.specs.Area.{counted, fill}
+use Rattle.loc_leaf.specs.Kind.{rowWidth}
+use Rattle.loc_leaf.specs.Rows.{lastNumber}
+use Rattle.loc_leaf.specs.Cut.{cutFor}
+use Rattle.loc_leaf.proofs.Booleans.{is?, both-left, both-right}
+use Rattle.loc_leaf.proofs.AreaLaws.{counted-le}
+use Rattle.loc_calls.specs.Areas.{areas, count}
+use Rattle.loc_calls.specs.Stores.{rowBytesAt}
+use Rattle.loc_calls.specs.Withheld.{onEdge, limited, rowsBefore, withheldLimit, withheld}
+use Rattle.loc_calls.proofs.Outcomes.{answer-refused}
+use Rattle.loc_store.specs.declared.Checked.{Checked}
+use Rattle.loc_store.specs.Areas.{HoldHeaders, Checks}
+use Rattle.loc_store.specs.Plans.{cutPast}
+use Rattle.loc_store.proofs.RuleLaws.{first-last}
+use Rattle.loc_store.proofs.SettledLaws.{accepted-sized, accepted-rows}
+
+-- ---- the four ways
+
+module _ (k : Kind) (d end n cut : ℕ) where
+  pub limit-past : end ≤ d → n ≡ limited k d end n cut
+  unfolding limited
+  limit-past h = rw (le-leb end d h) refl
+
+  module _ (h : d < end) where
+    pub limit-head : d < 16 → 0 ≡ limited k d end n cut
+    unfolding limited onEdge
+    limit-head g = rw (lt-leb end d h, lt-leb 16 d g) refl
+
+    module _ (g : 16 ≤ d) (w : ℕ) (e : w ≡ rowWidth k) where
+      pub limit-between : ((d - 16) % w ≡ 0 → ⊥) → 0 ≡ limited k d end n cut
+      unfolding limited onEdge
+      limit-between q = rw (lt-leb end d h, le-leb 16 d g, ← e, ne-eqb ((d - 16) % w) 0 q) refl
+
+      pub limit-edge : (r : ℕ) → (d - 16) % w ≡ 0 → r ≡ cut → r ≡ limited k d end n cut
+      unfolding limited onEdge
+      limit-edge r q x = rw (lt-leb end d h, le-leb 16 d g, ← e, eq-eqb ((d - 16) % w) 0 q, x) refl
+
+-- ---- what number 6 has tested
+
+-- the place of an edge below the end of so many rows
+record RowAt (k : Kind) (d m : ℕ) : Type 0 where
+  at : d ≡ 16 + rowWidth k * ((d - 16) / rowWidth k)
+  before : (d - 16) / rowWidth k < m
+
+row-at : (k : Kind) (d m : ℕ) → d < 16 + rowWidth k * m → 16 ≤ d → (d - 16) % rowWidth k ≡ 0 → RowAt k d m
+row-at Paired d m h g e = record { at = omega arith; before = omega arith }
+row-at Single d m h g e = record { at = omega arith; before = omega arith }
+
+module _ (k : Kind) (s r c : Bytes) (f : Checked) (e : Checks k (areas s r c) f) (h : f .number ≡ 0) (l : length r < 2 ^ 64) (d : ℕ) where
+  holds-16 : HoldHeaders (areas s r c)
+  holds-16 = accepted-sized k s r c (f .number) (e .number) h
+
+  whole : counted r ≡ 16 + rowWidth k * fill (rowWidth k) r
+  whole = accepted-rows k s r c (f .number) (e .number) h
+
+  -- the cut rule on the row at an edge below the published end
+  abbrev cut : ℕ
+  cut = cutFor k s (fill 2 s) (lastNumber 0 (rowsBefore k d r)) (rowBytesAt k d r)
+
+  cut-there : RowAt k d (fill (rowWidth k) r) → cutPast k s r (fill 2 s) d ≡ cut
+  unfolding cutPast rowsBefore
+  cut-there p =
+      rw (
+        le-leb (d + rowWidth k) (length r)
+        (omega (arith, p .at, whole, counted-le r, mul-suc (rowWidth k) ((d - 16) / rowWidth k), mul-le-mul-left {m = suc ((d - 16) / rowWidth k)} {n = fill (rowWidth k) r} (rowWidth k) (p .before))),
+        first-last k r ((d - 16) / rowWidth k) (omega (arith, p .before)) (holds-16 .rowsHold) l,
+        ← p .at,
+      ) refl
+
+  same-limit : limited k d (counted r) (fill 2 s) (cutPast k s r (fill 2 s) d) ≡ limited k d (counted r) (fill 2 s) cut
+  unfolding limited onEdge
+  same-limit = go (is? (leb (counted r) d)) (is? (onEdge k d))
+    where
+      go : (leb (counted r) d ≡ true) ⊎ (leb (counted r) d ≡ false) → (onEdge k d ≡ true) ⊎ (onEdge k d ≡ false)
+          → limited k d (counted r) (fill 2 s) (cutPast k s r (fill 2 s) d) ≡ limited k d (counted r) (fill 2 s) cut
+      go (inl p) q = rw p refl
+      go (inr p) (inl q) =
+          ap (limited k d (counted r) (fill 2 s))
+          (cut-there (row-at k d (fill (rowWidth k) r) (omega (arith, whole, leb-false (counted r) d p)) (leb-true 16 d (both-left (leb 16 d) _ q)) (eqb-true ((d - 16) % rowWidth k) 0 (both-right (leb 16 d) _ q))))
+      go (inr p) (inr q) = rw (p, q) refl
+
+  limit-is : limited k d (f .ends .rows) (f .count) (cutPast k s r (f .count) d) ≡ withheldLimit k d (areas s r c)
+  unfolding withheldLimit count
+  limit-is = rw (e .ends .rows, e .count) same-limit
+
+  pub withheld-accepted : (v : ℕ) (x : Answer) → v ≡ limited k d (f .ends .rows) (f .count) (cutPast k s r (f .count) d) → x ≡ acceptedWith v → x ≡ withheld k d (areas s r c) .answer
+  unfolding withheld answer
+  withheld-accepted v x q y = rw (y, ← e .number, h, ← limit-is, q) refl
+
+pub withheld-refused : (k : Kind) (s r c : Bytes) (f : Checked) → Checks k (areas s r c) f → (d : ℕ) (x : Answer) → (f .number ≡ 0 → ⊥) → x ≡ refusedBy (f .number) → x ≡ withheld k d (areas s r c) .answer
+unfolding withheld
+withheld-refused k s r c f e d x h y = rw (y, ← e .number, answer-refused (f .number) _ h) refl
+
+-- the published rows lie in the area
+pub rows-inside : (k : Kind) (s r c : Bytes) (f : Checked) → Checks k (areas s r c) f → f .ends .rows ≤ length r
+rows-inside k s r c f e = omega (arith, e .ends .rows, counted-le r)
