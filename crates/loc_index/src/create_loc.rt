@@ -7,6 +7,7 @@ ghost use Rattle.loc_calls.specs.Table.{batch, opening, append, truncate, read}
 ghost use Rattle.loc_calls.specs.Calls.{call, create, audit};
 ghost use Rattle.loc_calls.specs.SpanAt.{spanAt};
 ghost use Rattle.loc_calls.specs.Parts.{parts};
+ghost use Rattle.loc_calls.specs.Withheld.{withheld};
 ghost use Rattle.loc_calls.specs.Promises.{Stored, Read};
 ghost use Rattle.loc_parse.specs.Import.{appendListing};
 use loc_calls::SpanAt;
@@ -154,6 +155,13 @@ pub fn audit(slots: &[u8], rows: &[u8], checkpoints: &[u8]) -> Answer
     ensures { λ r. ⌜ r ≡ audit Paired (areas (now (slots .entry)) (now (rows .entry)) (now (checkpoints .entry))) .answer ⌝ }
 {
     loc_audit::audit::audit_areas(Kind::Paired, slots, rows, checkpoints)
+}
+
+// Refuses by 1, 6. The value is how many records are durable where the rows have reached the length `durable` on the medium.
+pub fn withheld_ovf_limit(slots: &[u8], rows: &[u8], checkpoints: &[u8], durable: u64) -> Answer
+    ensures { λ r. ⌜ r ≡ withheld Paired durable (areas (now (slots .entry)) (now (rows .entry)) (now (checkpoints .entry))) .answer ⌝ }
+{
+    loc_withheld::withheld_ovf_limit(Kind::Paired, slots, rows, checkpoints, durable)
 }
 
 // Refuses by 1, 6; 17 for any slot; 21. The lowest record whose span range holds the address, the index of the span in it, and the remainder.

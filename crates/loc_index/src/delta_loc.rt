@@ -6,6 +6,7 @@ ghost use Rattle.loc_leaf.specs.declared.Kind.the-variants.{Single};
 ghost use Rattle.loc_calls.specs.Areas.{areas};
 ghost use Rattle.loc_calls.specs.Table.{batch, opening, append, truncate, read};
 ghost use Rattle.loc_calls.specs.Calls.{call, create, audit};
+ghost use Rattle.loc_calls.specs.Withheld.{withheld};
 ghost use Rattle.loc_calls.specs.Promises.{Stored, Read};
 use loc_leaf::Answer;
 use loc_leaf::Kind;
@@ -115,4 +116,11 @@ pub fn audit(slots: &[u8], rows: &[u8], checkpoints: &[u8]) -> Answer
     ensures { λ r. ⌜ r ≡ audit Single (areas (now (slots .entry)) (now (rows .entry)) (now (checkpoints .entry))) .answer ⌝ }
 {
     loc_audit::audit::audit_areas(Kind::Single, slots, rows, checkpoints)
+}
+
+// Refuses by 1, 6. The value is how many records are durable where the rows have reached the length `durable` on the medium.
+pub fn withheld_ovf_limit(slots: &[u8], rows: &[u8], checkpoints: &[u8], durable: u64) -> Answer
+    ensures { λ r. ⌜ r ≡ withheld Single durable (areas (now (slots .entry)) (now (rows .entry)) (now (checkpoints .entry))) .answer ⌝ }
+{
+    loc_withheld::withheld_ovf_limit(Kind::Single, slots, rows, checkpoints, durable)
 }
