@@ -73,6 +73,7 @@ fn go(trial: &mut Trial, pick: &mut Pick) -> Outcome<()> {
         trial.beyond = pick.size(4);
         if pick.one_in(6) {
             trial.audit()?;
+            trial.withheld()?;
         }
         if pick.one_in(5) && tearable(trial, &call) {
             trial.torn(&call, pick)?;

@@ -8,6 +8,7 @@ use original::error::StoreError;
 use original::io_handle::{cut_after, writes, IoHandle, Write};
 use original::Fk;
 use std::path::{Path, PathBuf};
+use std::sync::atomic::Ordering;
 
 /// A refusal of the original: the number, or what it said where the table has none for it.
 #[derive(Clone, Debug, PartialEq, Eq)]
@@ -89,6 +90,25 @@ impl Judge {
             Judge::Paired(l) => [l.loc.logical_len(), l.ovf.logical_len(), l.off.logical_len()],
             Judge::Single(l) => [l.loc.logical_len(), l.ovf.logical_len(), l.off.logical_len()],
         }
+    }
+
+    /// How many records are durable where the rows have reached this length on the medium, 1 or more: a cap of 0 is none to the original.
+    /// The length in memory goes on from there without a header write, as after one that failed; the write that then catches up is lost.
+    pub fn withheld(&self, durable: u64) -> Result<u64, Refusal> {
+        let (loc, ovf, pair) = match self {
+            Judge::Paired(l) => (&l.loc, &l.ovf, true),
+            Judge::Single(l) => (&l.loc, &l.ovf, false),
+        };
+        let end = ovf.logical_len();
+        if durable < end {
+            ovf.published_len.store(durable, Ordering::Release);
+            assert!(!ovf.publish_locator_end(end, false) && ovf.logical_len() == end);
+        }
+        let said = original::withheld_ovf_limit(loc, ovf, self.count(), pair).map_err(refusal);
+        cut_after(0);
+        assert!(ovf.catch_up_header());
+        cut_after(u64::MAX);
+        said
     }
 
     /// Which area a write went to.

@@ -21,3 +21,4 @@ pub mod tally;
 pub mod tape;
 pub mod tear;
 pub mod trial;
+pub mod withheld;

@@ -1,4 +1,4 @@
-//! Cases that document 01 names with their values, on both sides, the order of refusals in a record, where a batch has to begin, and which rows a slot wants.
+//! Cases that document 01 names with their values, on both sides, the order of refusals in a record, where a batch has to begin, which rows a slot wants, and how many records are durable.
 //! Document 01's starred ones are proved; those here are the ones that it leaves to this program, and their neighbours.
 use crate::areas::{empty, put, row, store_len, Areas, Kind, CHECKPOINTS, ROWS, SLOTS};
 use crate::call::{Batch, Call, Outcome};
@@ -109,6 +109,9 @@ pub fn run(
             let name = format!("slot {slot:?} with a row of {strides}, {spans}");
             case(kind, &name, with_row(kind, slot, strides, spans), &|trial| audited(trial, sound))?;
         }
+        for (name, areas, limits) in durable(kind) {
+            case(kind, name, areas, &|trial| limited(trial, &limits))?;
+        }
     }
     Ok(cases)
 }
@@ -202,6 +205,53 @@ fn audited(trial: &mut Trial, sound: bool) -> Outcome<()> {
         return Err(format!("the original's readings show {shown}, document 02 has {sound}"));
     }
     trial.audit()
+}
+
+type Durable = (&'static str, Areas, Vec<(u64, u64)>);
+
+/// A name, areas, and how many records are durable at lengths of their rows.
+fn durable(kind: Kind) -> Vec<Durable> {
+    let width = kind.widths()[ROWS] as u64;
+    let wide = if kind == Kind::Paired { 300 } else { 65_536 };
+    let two = [row(kind, 2, wide, wide), row(kind, 4, wide, wide)];
+    let five = |wanting: &[usize]| {
+        wanting.iter().fold(areas(kind, 5, 0, &two, 2), |areas, &number| slot(areas, number, [0, 0]))
+    };
+    let (first, second, end) = (16, 16 + width, 16 + 2 * width);
+    vec![
+        (
+            "five records with rows at 2 and 4: one is durable without rows, three with one row",
+            five(&[2, 4]),
+            vec![
+                (0, 0),
+                (1, 0),
+                (15, 0),
+                (first, 1),
+                (first + 1, 0),
+                (second - 1, 0),
+                (second, 3),
+                (second + 1, 0),
+                (end - 1, 0),
+                (end, 5),
+                (end + 1, 5),
+                (u64::MAX, 5),
+            ],
+        ),
+        ("a row whose slot does not want it cuts nothing", five(&[2]), vec![(first, 1), (second, 5), (second + 4, 0)]),
+        ("nor does the first one", five(&[4]), vec![(first, 5), (second, 3)]),
+        ("no rows: all are durable from 16 on", areas(kind, 3, 0, &[], 0), vec![(0, 0), (15, 0), (16, 3), (17, 3)]),
+    ]
+}
+
+fn limited(trial: &mut Trial, limits: &[(u64, u64)]) -> Outcome<()> {
+    trial.call(&Call::Open)?;
+    for &(durable, value) in limits {
+        let both = trial.withheld_at(durable)?;
+        if both != value {
+            return Err(format!("rows durable up to {durable}: both sides have {both}, document 02 has {value}"));
+        }
+    }
+    trial.withheld()
 }
 
 type Refused = (&'static str, [u64; 2], [u32; 2], u64);

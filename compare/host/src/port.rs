@@ -6,7 +6,7 @@ use crate::call::Batch;
 #[rustfmt::skip]
 mod c {
     macro_rules! calls {
-        ($create:ident $open:ident $open_run:ident $truncate:ident $truncate_run:ident $read:ident $audit:ident) => {
+        ($create:ident $open:ident $open_run:ident $truncate:ident $truncate_run:ident $read:ident $audit:ident $withheld:ident) => {
             pub fn $create(s: *mut u8, sn: usize, r: *mut u8, rn: usize, c: *mut u8, cn: usize, value: *mut u64) -> u64;
             pub fn $open(s: *mut u8, sn: usize, r: *mut u8, rn: usize, c: *mut u8, cn: usize, value: *mut u64) -> u64;
             pub fn $open_run(s: *mut u8, sn: usize, r: *mut u8, rn: usize, c: *mut u8, cn: usize, places: u64, value: *mut u64) -> u64;
@@ -14,11 +14,12 @@ mod c {
             pub fn $truncate_run(s: *mut u8, sn: usize, r: *mut u8, rn: usize, c: *mut u8, cn: usize, count: u64, places: u64, value: *mut u64) -> u64;
             pub fn $read(s: *const u8, sn: usize, r: *const u8, rn: usize, c: *const u8, cn: usize, wanted: *const u64, wn: usize, answers: *mut u64, an: usize, value: *mut u64) -> u64;
             pub fn $audit(s: *const u8, sn: usize, r: *const u8, rn: usize, c: *const u8, cn: usize, value: *mut u64) -> u64;
+            pub fn $withheld(s: *const u8, sn: usize, r: *const u8, rn: usize, c: *const u8, cn: usize, durable: u64, value: *mut u64) -> u64;
         };
     }
     extern "C" {
-        calls!(create_loc_create create_loc_open create_loc_open_run create_loc_truncate create_loc_truncate_run create_loc_read create_loc_audit);
-        calls!(delta_loc_create delta_loc_open delta_loc_open_run delta_loc_truncate delta_loc_truncate_run delta_loc_read delta_loc_audit);
+        calls!(create_loc_create create_loc_open create_loc_open_run create_loc_truncate create_loc_truncate_run create_loc_read create_loc_audit create_loc_withheld_ovf_limit);
+        calls!(delta_loc_create delta_loc_open delta_loc_open_run delta_loc_truncate delta_loc_truncate_run delta_loc_read delta_loc_audit delta_loc_withheld_ovf_limit);
         pub fn create_loc_append(
             s: *mut u8, sn: usize, r: *mut u8, rn: usize, c: *mut u8, cn: usize,
             starts: *const u64, starts_n: usize, lens: *const u64, lens_n: usize,
@@ -290,6 +291,18 @@ pub fn audit(kind: Kind, areas: &Areas) -> Answer {
         Kind::Single => c::delta_loc_audit,
     };
     let number = unsafe { call(s.as_ptr(), s.len(), r.as_ptr(), r.len(), k.as_ptr(), k.len(), &mut value) };
+    (number, value)
+}
+
+/// How many records are durable where the rows have reached this length.
+pub fn withheld(kind: Kind, areas: &Areas, durable: u64) -> Answer {
+    let [s, r, k] = areas;
+    let mut value = UNSET;
+    let call = match kind {
+        Kind::Paired => c::create_loc_withheld_ovf_limit,
+        Kind::Single => c::delta_loc_withheld_ovf_limit,
+    };
+    let number = unsafe { call(s.as_ptr(), s.len(), r.as_ptr(), r.len(), k.as_ptr(), k.len(), durable, &mut value) };
     (number, value)
 }
 

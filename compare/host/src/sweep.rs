@@ -34,6 +34,7 @@ fn open_and_read(trial: &mut Trial, wanted: &[u64]) -> Outcome<()> {
     trial.restart(areas);
     if trial.call(&Call::Open)? {
         trial.audit()?;
+        trial.withheld()?;
         for &id in wanted {
             trial.call(&Call::Read(vec![id]))?;
         }

@@ -3,6 +3,7 @@
 use crate::areas::Kind;
 use crate::call::{What, WHATS};
 use crate::port::{Answer, Crossing};
+use crate::withheld::{Limit, LIMITS};
 
 /// 0 and the numbers of the table.
 pub const NUMBERS: usize = 30;
@@ -20,6 +21,8 @@ pub struct Tally {
     pub audits: [[u64; 2]; 2],
     /// Of those that are not, by kind, how many only document 02's condition on rows tells.
     pub by_rows: [u64; 2],
+    /// Durable lengths of the rows by kind, and what each was to them.
+    limits: [[u64; 7]; 2],
     /// Texts that were read back as listings.
     pub texts: u64,
     /// How often each number came from a listing's calls.
@@ -71,6 +74,10 @@ fn each(numbers: &[usize], counts: &[u64]) -> String {
 impl Tally {
     pub fn note(&mut self, kind: Kind, what: What, number: u64) {
         self.numbers[kind as usize][what as usize][number as usize] += 1;
+    }
+
+    pub fn note_limit(&mut self, kind: Kind, limit: Limit) {
+        self.limits[kind as usize][limit as usize] += 1;
     }
 
     pub fn note_listing(&mut self, number: u64) {
@@ -141,6 +148,11 @@ impl Tally {
             if self.by_rows[kind as usize] == 0 {
                 list.push(format!("{} audit of areas that only their rows make unsound", kind.name()));
             }
+            for (limit, name) in LIMITS {
+                if self.limits[kind as usize][limit as usize] == 0 {
+                    list.push(format!("{} durable length {name}", kind.name()));
+                }
+            }
         }
         list.extend(OF_A_LISTING.iter().filter(|&&n| self.listings[n] == 0).map(|n| format!("listing {n}")));
         list.extend(OF_AN_ADDRESS.iter().filter(|&&n| self.addresses[n] == 0).map(|n| format!("address {n}")));
@@ -167,6 +179,14 @@ impl Tally {
             text += &format!("numbers, {}: {}; of the 17s {of_appends} are of appends\n", kind.name(), list.join(", "));
         }
         text
+    }
+
+    /// How many records are durable: all lengths but 0 were asked of the original.
+    pub fn limits(&self) -> String {
+        let of = |limit: Limit| self.limits[0][limit as usize] + self.limits[1][limit as usize];
+        let list: Vec<String> = LIMITS.iter().map(|&(limit, name)| format!("{name}: {}", of(limit))).collect();
+        let all: u64 = self.limits.iter().flatten().sum();
+        format!("durable rows: {} lengths agree with the original ({})", all - of(Limit::Zero), list.join(", "))
     }
 
     /// The listings, which the original does not read back.

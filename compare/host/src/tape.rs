@@ -26,6 +26,7 @@ mod step {
     pub const TRUNCATE: u8 = 10;
     pub const READ: u8 = 11;
     pub const AUDIT: u8 = 12;
+    pub const WITHHELD: u8 = 13;
 }
 
 #[derive(Default)]
@@ -209,6 +210,14 @@ impl Tape {
         self.bytes.push(step::AUDIT);
         self.answer(0, u64::from(sound));
         self.audits[usize::from(sound)] += 1;
+        self.calls += 1;
+    }
+
+    /// How many records are durable where the rows have reached a length.
+    pub fn withheld(&mut self, durable: u64, value: u64) {
+        self.bytes.push(step::WITHHELD);
+        self.bytes.extend(durable.to_le_bytes());
+        self.answer(0, value);
         self.calls += 1;
     }
 }

@@ -241,6 +241,7 @@ impl<'a> Trial<'a> {
             return Err("read: the port stored answers and gave 6".into());
         }
         self.not_the_originals("audit without an opening", port::audit(self.kind, &mine), 6, &mine)?;
+        self.not_the_originals("durable rows without an opening", port::withheld(self.kind, &mine, 16), 6, &mine)?;
         self.tally.note(self.kind, call.what(), 6);
         Ok(())
     }
@@ -273,6 +274,7 @@ impl<'a> Trial<'a> {
             self.tally.note(self.kind, what, 1);
         }
         self.not_the_originals("audit of an area under 16 bytes", port::audit(self.kind, &mine), 1, &mine)?;
+        self.not_the_originals("durable rows of such an area", port::withheld(self.kind, &mine, 16), 1, &mine)?;
         if buffer != [GARBAGE; 6] {
             return Err("read: the port stored answers and gave 1".into());
         }

@@ -9,6 +9,16 @@ pub mod io_handle;
 
 pub use rbitcoin_primitives::{Fk, TableKind, SCHEMA_VERSION, STORE_MAGIC};
 
+/// The original's own, which only its crate sees.
+pub fn withheld_ovf_limit(
+    loc: &file::TableFile,
+    ovf: &file::TableFile,
+    count: u64,
+    pair: bool,
+) -> Result<u64, error::StoreError> {
+    delta_loc::withheld_ovf_limit(loc, ovf, count, pair)
+}
+
 /// A caller's completion session. There is none here: every read goes through plain `pread`.
 pub struct IoCtx<'a> {
     session: Option<&'a mut ()>,

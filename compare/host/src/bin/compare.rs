@@ -78,6 +78,7 @@ fn main() {
         }
     }
     print!("{}", tally.numbers());
+    println!("{}", tally.limits());
     println!("{}", tally.listings());
     println!("{}", tally.addresses());
     println!("{}", tally.parts());
