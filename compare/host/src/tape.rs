@@ -39,6 +39,8 @@ pub struct Tape {
     pub unreadable: u64,
     /// Audits: of an index that is not sound, and of one that is.
     pub audits: [u64; 2],
+    /// Lengths at which it was asked how many records are durable.
+    pub lengths: u64,
     /// Something in the history is too large for the replay's arrays.
     pub unfit: bool,
     held: Option<Areas>,
@@ -218,6 +220,7 @@ impl Tape {
         self.bytes.push(step::WITHHELD);
         self.bytes.extend(durable.to_le_bytes());
         self.answer(0, value);
+        self.lengths += 1;
         self.calls += 1;
     }
 }

@@ -135,6 +135,7 @@ fn on_areas(
         b'r' => calls::read(kind, slots, rows, checkpoints, wanted(list, n), answers),
         b'p' => parts(list, n, slots, rows, checkpoints, answers),
         b'u' => calls::audit(kind, slots, rows, checkpoints),
+        b'w' => calls::withheld_ovf_limit(kind, slots, rows, checkpoints, list[0]),
         _ => calls::store(
             kind,
             storing(letter),

@@ -128,6 +128,19 @@ pub fn audit(kind: Kind, slots: &[u8], rows: &[u8], checkpoints: &[u8]) -> Answe
     }
 }
 
+pub fn withheld_ovf_limit(
+    kind: Kind,
+    slots: &[u8],
+    rows: &[u8],
+    checkpoints: &[u8],
+    durable: u64,
+) -> Answer {
+    match kind {
+        Kind::Paired => create_loc::withheld_ovf_limit(slots, rows, checkpoints, durable),
+        Kind::Single => delta_loc::withheld_ovf_limit(slots, rows, checkpoints, durable),
+    }
+}
+
 // Whose crossing is at an address, which the paired kind alone answers.
 pub fn span_at(slots: &[u8], rows: &[u8], checkpoints: &[u8], address: u64) -> SpanAt {
     create_loc::span_at(slots, rows, checkpoints, address)

@@ -122,7 +122,7 @@ fn storing(code: u8, places: u8) -> Storing {
     }
 }
 
-// The call whose code stands at a place: 9 append, 11 a reading, 12 an audit, the others as above.
+// The call whose code stands at a place: 9 append, 11 a reading, 12 an audit, 13 how many records are durable, the others as above.
 pub fn call(
     kind: Kind,
     data: &[u8],
@@ -137,6 +137,10 @@ pub fn call(
         9 => append(kind, data, at, slots, rows, checkpoints),
         11 => read(kind, data, at, slots, rows, checkpoints, answers),
         12 => calls::audit(kind, slots, rows, checkpoints),
+        13 => {
+            let durable = u64_at(data, plus(at, 1));
+            calls::withheld_ovf_limit(kind, slots, rows, checkpoints, durable)
+        }
         _ => {
             let places = byte_at(data, plus(at, 1));
             calls::store(

@@ -122,6 +122,7 @@ fn arguments_end(data: &[u8], at: usize) -> usize {
             plus(at, 2),
             eight_times(byte_at(data, plus(at, 1)) as usize),
         ),
+        13 => plus(at, 9),
         _ => plus(at, 1),
     }
 }
@@ -161,7 +162,7 @@ fn judged(data: &[u8], s: State, answer: Answer, answers: &[u64; 386]) -> State 
     )
 }
 
-// 7 to 12: a call on copies of the areas. The buffer has two words more than a reading asks for.
+// 7 to 13: a call on copies of the areas. The buffer has two words more than a reading asks for.
 fn call_on_copies(data: &[u8], s: State, expected: &[u8; 6400], left: &mut [u8; 6400]) -> State {
     let kind = kind_of(s.kind);
     let mut slots = copied(expected, 0);

@@ -20,6 +20,7 @@ struct Sample {
     numbers: [[u64; NUMBERS]; 2],
     unreadable: [u64; 2],
     audits: [[u64; 2]; 2],
+    lengths: [u64; 2],
 }
 
 impl Sample {
@@ -33,6 +34,7 @@ impl Sample {
         self.numbers[kind as usize].iter_mut().zip(tape.numbers).for_each(|(sum, n)| *sum += n);
         self.unreadable[kind as usize] += tape.unreadable;
         self.audits[kind as usize].iter_mut().zip(tape.audits).for_each(|(sum, n)| *sum += n);
+        self.lengths[kind as usize] += tape.lengths;
     }
 
     /// Whether the tape has a refusal, or an audit of unsound areas, that the sample lacks.
@@ -73,10 +75,11 @@ fn main() {
         let list: Vec<String> = (0..NUMBERS).filter(|&n| list[n] > 0).map(|n| format!("{n}: {}", list[n])).collect();
         let [unsound, sound] = sample.audits[kind as usize];
         println!(
-            "numbers, {}: {}; of the 17s {} are of appends; audits: {sound} of sound and {unsound} of unsound areas",
+            "numbers, {}: {}; of the 17s {} are of appends; audits: {sound} of sound and {unsound} of unsound areas; {} durable lengths",
             kind.name(),
             list.join(", "),
-            sample.unreadable[kind as usize]
+            sample.unreadable[kind as usize],
+            sample.lengths[kind as usize]
         );
     }
 }
