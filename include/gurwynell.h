@@ -97,6 +97,9 @@ uint64_t create_loc_truncate_run(GURWYNELL_AREAS, uint64_t count, uint64_t place
 uint64_t create_loc_read(GURWYNELL_LENT_AREAS, GURWYNELL_READING, uint64_t *value);
 /* The value is 1 where the index is sound, its published rows included, else 0. */
 uint64_t create_loc_audit(GURWYNELL_LENT_AREAS, uint64_t *value);
+/* How many records are safe to publish from where the row area has reached the medium up to `durable` bytes: the first so many use
+ * rows before that length only. A length below 16 or within a row gives 0, one at or past the published end of the rows the count. */
+uint64_t create_loc_withheld_ovf_limit(GURWYNELL_LENT_AREAS, uint64_t durable, uint64_t *value);
 /* Whose crossing is at an address: the lowest record whose span range holds it, the index of the span in that record from 0 on, and
  * the remainder 0 to 7, so that address = span start + 8 * index + remainder. The whole index is read. */
 uint64_t create_loc_span_at(GURWYNELL_LENT_AREAS, uint64_t address, uint64_t *record, uint64_t *index, uint64_t *remainder);
@@ -114,6 +117,7 @@ uint64_t delta_loc_truncate(GURWYNELL_AREAS, uint64_t count, uint64_t *value);
 uint64_t delta_loc_truncate_run(GURWYNELL_AREAS, uint64_t count, uint64_t places, uint64_t *value);
 uint64_t delta_loc_read(GURWYNELL_LENT_AREAS, GURWYNELL_READING, uint64_t *value);
 uint64_t delta_loc_audit(GURWYNELL_LENT_AREAS, uint64_t *value);
+uint64_t delta_loc_withheld_ovf_limit(GURWYNELL_LENT_AREAS, uint64_t durable, uint64_t *value);
 
 #ifdef __cplusplus
 }

@@ -34,6 +34,11 @@ int main(void)
     expect("span count", answers[GURWYNELL_PAIRED_SPAN_COUNT], 1);
     expect("audit", create_loc_audit(slots, 64, rows, 64, checkpoints, 64, &value), GURWYNELL_ACCEPTED);
     expect("soundness", value, 1);
+    expect("durable without the row", create_loc_withheld_ovf_limit(slots, 64, rows, 64, checkpoints, 64, 16, &value), GURWYNELL_ACCEPTED);
+    expect("how many that are", value, 1);
+    expect("durable with the row", create_loc_withheld_ovf_limit(slots, 64, rows, 64, checkpoints, 64, 32, &value), GURWYNELL_ACCEPTED);
+    expect("all of them", value, 2);
+    expect("durable rows of no area", delta_loc_withheld_ovf_limit(NULL, 0, NULL, 0, NULL, 0, 32, &value), GURWYNELL_AREA_TOO_SMALL);
 
     uint64_t record = 9, index = 9, remainder = 9;
     expect("span at 37", create_loc_span_at(slots, 64, rows, 64, checkpoints, 64, 37, &record, &index, &remainder), GURWYNELL_ACCEPTED);

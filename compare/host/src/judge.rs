@@ -5,6 +5,7 @@ use crate::call::Batch;
 use original::create_loc::{CreateLoc, CreateLocAppend};
 use original::delta_loc::DeltaLoc;
 use original::error::StoreError;
+use original::file::TableFile;
 use original::io_handle::{cut_after, writes, IoHandle, Write};
 use original::Fk;
 use std::path::{Path, PathBuf};
@@ -92,23 +93,35 @@ impl Judge {
         }
     }
 
-    /// How many records are durable where the rows have reached this length on the medium, 1 or more: a cap of 0 is none to the original.
-    /// The length in memory goes on from there without a header write, as after one that failed; the write that then catches up is lost.
-    pub fn withheld(&self, durable: u64) -> Result<u64, Refusal> {
-        let (loc, ovf, pair) = match self {
+    fn files(&self) -> (&TableFile, &TableFile, bool) {
+        match self {
             Judge::Paired(l) => (&l.loc, &l.ovf, true),
             Judge::Single(l) => (&l.loc, &l.ovf, false),
-        };
+        }
+    }
+
+    /// From here on the rows have reached this length on the medium, 1 or more: a cap of 0 is none to the original.
+    /// Their length in memory goes on from there without a header write, as after one that failed.
+    pub fn withhold(&self, durable: u64) {
+        let (_, ovf, _) = self.files();
         let end = ovf.logical_len();
         if durable < end {
             ovf.published_len.store(durable, Ordering::Release);
             assert!(!ovf.publish_locator_end(end, false) && ovf.logical_len() == end);
         }
-        let said = original::withheld_ovf_limit(loc, ovf, self.count(), pair).map_err(refusal);
+    }
+
+    /// How many records are then durable.
+    pub fn withheld_ovf_limit(&self) -> Result<u64, Refusal> {
+        let (loc, ovf, pair) = self.files();
+        original::withheld_ovf_limit(loc, ovf, self.count(), pair).map_err(refusal)
+    }
+
+    /// All rows have reached it. The header write that says so is lost: the files stay as they are.
+    pub fn catch_up(&self) {
         cut_after(0);
-        assert!(ovf.catch_up_header());
+        assert!(self.files().1.catch_up_header());
         cut_after(u64::MAX);
-        said
     }
 
     /// Which area a write went to.

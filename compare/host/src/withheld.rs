@@ -68,7 +68,14 @@ impl Trial<'_> {
     /// Both sides at one length. Length 0 gives 0, which the original cannot be asked.
     pub fn withheld_at(&mut self, durable: u64) -> Outcome<u64> {
         let judge = self.judge.as_ref().expect("an opening came first");
-        let said = if durable == 0 { Ok(0) } else { judge.withheld(durable) };
+        let said = if durable == 0 {
+            Ok(0)
+        } else {
+            judge.withhold(durable);
+            let said = judge.withheld_ovf_limit();
+            judge.catch_up();
+            said
+        };
         let answer = port::withheld(self.kind, &self.areas, durable);
         self.agree(&format!("rows durable up to {durable}"), answer, said)?;
         self.tally.note_limit(self.kind, self.limit_of(durable, answer.1));

@@ -1,5 +1,5 @@
-//! Port and original on the same data in one process: reading, opening, append, truncation, listings, loads, span addresses, parts, audits, and cost against size, rows and wanted numbers.
-//! bench [--quick] [reading|growth|storing|listing|load|span_at|parts|audit|size|numbers]...   the tables named, all where none is; the result first, from the same lines
+//! Port and original on the same data in one process: reading, opening, append, truncation, listings, loads, span addresses, parts, audits, durable rows, and cost against size, rows and wanted numbers.
+//! bench [--quick] [reading|growth|storing|listing|load|span_at|parts|audit|durable|size|numbers]...   the tables named, all where none is; the result first, from the same lines
 mod index;
 mod markdown;
 mod measure;
@@ -19,7 +19,7 @@ std::arch::global_asm!(concat!(".pushsection .text.shift,\"axR\",@progbits\n.spa
 
 type Table = fn(&mut Run, &Folder, &Setting);
 
-const TABLES: [(&str, Table); 10] = [
+const TABLES: [(&str, Table); 11] = [
     ("reading", tables::reading_table),
     ("growth", tables::growth_table),
     ("storing", tables::storing_table),
@@ -28,6 +28,7 @@ const TABLES: [(&str, Table); 10] = [
     ("span_at", tables::span_at_table),
     ("parts", tables::parts_table),
     ("audit", tables::audit_table),
+    ("durable", tables::durable_table),
     ("size", tables::size_table),
     ("numbers", tables::numbers_table),
 ];

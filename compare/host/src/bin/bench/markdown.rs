@@ -2,7 +2,7 @@
 //! Nothing is worked out here but ratios, bytes a second, nanoseconds a record, and nanoseconds a row where there are 9,000 rows or more.
 use crate::measure::Both;
 use crate::tables::{
-    Audited, Composed, Line, Listed, Loaded, Run, Searched, Sized, Stored, LISTING_LINES, PARTS_RECORDS,
+    Audited, Composed, Limited, Line, Listed, Loaded, Run, Searched, Sized, Stored, LISTING_LINES, PARTS_RECORDS,
     STORING_RECORDS,
 };
 
@@ -91,6 +91,9 @@ pub fn print(run: &Run) {
     }
     if !run.audit.is_empty() {
         audit(&run.audit);
+    }
+    if !run.durable.is_empty() {
+        durable(&run.durable);
     }
     if !run.size.is_empty() {
         size(&run.size);
@@ -299,6 +302,33 @@ fn audit(lines: &[Audited]) {
             ratio(line.against_files())
         );
     }
+}
+
+impl Limited {
+    pub fn past_check(&self) -> f64 {
+        over(self.times.call, self.times.check)
+    }
+}
+
+fn durable(lines: &[Limited]) {
+    println!("\n## How many records are durable\n");
+    head("| kind | records | rows | published rows | call | check of 1 and 6 | call / check | original, files |");
+    for line in lines {
+        let t = &line.times;
+        println!(
+            "| {} | {} | {} | {} | {} | {} | {} | {} |",
+            line.kind.name(),
+            line.records,
+            line.density,
+            line.rows,
+            us(t.call),
+            us(t.check),
+            ratio(line.past_check()),
+            us(t.files)
+        );
+    }
+    println!("\nThe length is that of the middle row. *check of 1 and 6* is a reading that is refused by 15, the first test behind them. The original opens its files once, which goes over the rows too,");
+    println!("and then reads the two rows and the slot.");
 }
 
 fn both((port, files): Both) -> String {

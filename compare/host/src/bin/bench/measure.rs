@@ -360,6 +360,31 @@ pub fn audit(index: &Index, setting: &Setting) -> Audit {
     Audit { call: best[0], rust: best[1], files: best[2] }
 }
 
+/// How many records are durable, at the middle row: the call, its check of 1 and 6 alone, and the original on its files.
+pub struct Limit {
+    pub call: f64,
+    pub check: f64,
+    pub files: f64,
+}
+
+pub fn durable(index: &Index, setting: &Setting) -> Limit {
+    let Index { kind, areas, judge, .. } = index;
+    let middle = 16 + (index.row_count() / 2 * kind.widths()[ROWS]) as u64;
+    judge.withhold(middle);
+    let limit = judge.withheld_ovf_limit().expect("the row at that length can be read");
+    let wanted = [1u64; 1025];
+    let best = over_calls(
+        setting,
+        &mut [
+            &mut || assert_eq!(port::withheld(*kind, black_box(areas), middle), (0, limit)),
+            &mut || assert_eq!(port::read(*kind, black_box(areas), &wanted, &mut []), (15, 0)),
+            &mut || assert_eq!(black_box(judge).withheld_ovf_limit(), Ok(limit)),
+        ],
+    );
+    judge.catch_up();
+    Limit { call: best[0], check: best[1], files: best[2] }
+}
+
 pub fn opening(index: &mut Index, folder: &Folder, setting: &Setting) -> Both {
     let kind = index.kind;
     let areas = &mut index.areas;

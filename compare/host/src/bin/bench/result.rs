@@ -1,7 +1,7 @@
 //! What the tables say, worked out from the same lines, as the document's section Result.
 //! Every figure and every "all of them" in its text is computed here.
 use crate::markdown::{head, number, over, ratio, us, MANY_ROWS};
-use crate::tables::{Audited, Composed, Line, Listed, Loaded, Run, Searched, GROWTH, LISTING_LINES};
+use crate::tables::{Audited, Composed, Limited, Line, Listed, Loaded, Run, Searched, GROWTH, LISTING_LINES};
 use crate::wanted::{Spread, WORKLOADS};
 use std::cmp::Ordering;
 
@@ -69,6 +69,9 @@ pub fn print(run: &Run) {
     }
     if !run.audit.is_empty() {
         audit(&run.audit);
+    }
+    if !run.durable.is_empty() {
+        durable(&run.durable);
     }
     if !run.numbers.is_empty() {
         numbers(&run.numbers);
@@ -357,6 +360,15 @@ fn audit(lines: &[Audited]) {
         range(&Figures::of(lines.iter().map(Audited::by_record))),
         range(&Figures::of(lines.iter().map(Audited::against_rust))),
         range(&Figures::of(lines.iter().map(Audited::against_files)))
+    );
+}
+
+fn durable(lines: &[Limited]) {
+    println!(
+        "\n**How many records are durable** takes {} of the time of the check that every call begins with: up to {} µs, where the original, opened, takes up to {} µs.",
+        range(&Figures::of(lines.iter().map(Limited::past_check))),
+        us(lines.iter().map(|line| line.times.call).fold(0.0, f64::max)),
+        us(lines.iter().map(|line| line.times.files).fold(0.0, f64::max))
     );
 }
 

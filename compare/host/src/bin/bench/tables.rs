@@ -2,8 +2,8 @@
 //! Every table has its own; what is in two tables was measured for each.
 use crate::index::{build, Index, DENSITIES, KINDS};
 use crate::measure::{
-    audit, listing, load, opening, parts, reading, span_at, storing, Audit, Both, Listing, Load, Needed, Reading,
-    Search,
+    audit, durable, listing, load, opening, parts, reading, span_at, storing, Audit, Both, Limit, Listing, Load,
+    Needed, Reading, Search,
 };
 use crate::pairs::{Shape, SHAPES};
 use crate::turns::{spent, Setting};
@@ -69,6 +69,15 @@ pub struct Audited {
     pub times: Audit,
 }
 
+/// How many records of one index are durable.
+pub struct Limited {
+    pub kind: Kind,
+    pub records: u64,
+    pub density: &'static str,
+    pub rows: usize,
+    pub times: Limit,
+}
+
 /// All calls on an index of one size.
 pub struct Sized {
     pub line: Line,
@@ -87,6 +96,7 @@ pub struct Run {
     pub span_at: Vec<Searched>,
     pub parts: Vec<Composed>,
     pub audit: Vec<Audited>,
+    pub durable: Vec<Limited>,
     pub size: Vec<Sized>,
     pub numbers: Vec<Line>,
     pub clock: f64,
@@ -191,6 +201,19 @@ pub fn parts_table(run: &mut Run, folder: &Folder, setting: &Setting) {
 }
 
 /// Audits at the same sizes.
+/// How many records are durable: by the number of rows, which the check of 6 goes over.
+pub fn durable_table(run: &mut Run, folder: &Folder, setting: &Setting) {
+    for kind in KINDS {
+        for records in SIZES {
+            for (density, one_in) in DENSITIES {
+                let index = build(kind, folder, records, one_in);
+                let times = durable(&index, setting);
+                run.durable.push(Limited { kind, records, density, rows: index.row_count(), times });
+            }
+        }
+    }
+}
+
 pub fn audit_table(run: &mut Run, folder: &Folder, setting: &Setting) {
     for kind in KINDS {
         for records in SIZES {
