@@ -1,6 +1,6 @@
 -- How many records are durable, in areas that hold a list whole: up to a length on a row's edge, those before the next row's record.
 -- The cut rule meets there what it would meet if that length were the published one.
-use Prim.Native.Nat.{ℕ, zero, suc, _+_, _-_, _*_, _/_, _%_, _≤_, _<_}
+use Prim.Native.Nat.{ℕ, suc, _+_, _-_, _*_, _/_, _%_, _≤_, _<_}
 use mathlib.Core.Path.{_≡_, refl, sym, ap, _∙_, subst}
 use mathlib.Core.Logic.{_⊎_, inl, inr}
 use mathlib.Core.Bool.{true, false, true≢false}
@@ -8,16 +8,15 @@ use mathlib.Core.List.{List}
 use native.Mathlib.Nat.{mul-suc, mul-le-mul-left, mul-div-cancel-left, mul-mod-right, add-sub-cancel-left}
 use native.Mathlib.Omega.{arith}
 use lib.Dec.{leb, eqb}
-use lib.ListN.{length, take, length-take}
-use lib.Seq.{take-take, take-length, take-all, take-append-seam}
+use lib.ListN.{length, take}
+use lib.Seq.{take-take, take-all, take-append-seam}
 use borrow.Author.Tests.{le-leb, lt-leb, leb-true, leb-false, eqb-true}
 use Rattle.loc_leaf.specs.declared.Kind.{Kind}
 use Rattle.loc_leaf.specs.declared.Kind.the-variants.{Paired, Single}
 use Rattle.loc_leaf.specs.Bytes.{Bytes, bytes}
 use Rattle.loc_leaf.specs.Area.{counted, storeLength}
 use Rattle.loc_leaf.specs.Kind.{rowWidth}
-use Rattle.loc_leaf.specs.Rows.{rowList, lastNumber}
-use Rattle.loc_leaf.specs.Cut.{cutFor}
+use Rattle.loc_leaf.specs.Rows.{rowList}
 use Rattle.loc_leaf.proofs.Booleans.{is?, both-left, both-right}
 use Rattle.loc_leaf.proofs.Stored.{length-bytes, drop-store}
 use Rattle.loc_leaf.proofs.AreaLaws.{length-storeLength}
@@ -165,8 +164,12 @@ module _ (k : Kind) (a : Areas) (E : List Entry) (s : Full k a E) where
     not-next : has (durableAt k (edge k r) a (suc (length (t .first)))) ≡ false
     unfolding durableAt has
     not-next =
-        rw (rows-of-first, first-taken, slot-at k a E _ _ s (t .first) (t .it) (t .rest) (t .split),
-        lacks-row k (t .first) _ (omega (arith, few k a E _ _ s, next-total k r E t)) (t .needs)) refl
+        rw (
+          rows-of-first,
+          first-taken,
+          slot-at k a E _ _ s (t .first) (t .it) (t .rest) (t .split),
+          lacks-row k (t .first) _ (omega (arith, few k a E _ _ s, next-total k r E t)) (t .needs),
+        ) refl
 
     durable-edge : Durable k (edge k r) a (length (t .first))
     durable-edge = record {

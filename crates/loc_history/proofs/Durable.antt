@@ -1,16 +1,13 @@
 -- withheld_ovf_limit on areas that hold the book's list answers by the longest first part that its durable rows carry.
 -- So it does at the end of every lawful history.
 use Prim.Native.Nat.{ℕ, _-_, _/_}
-use mathlib.Core.Path.{_≡_, refl, sym, ap, _∙_}
-use mathlib.Core.List.{List, [], map}
-use native.Mathlib.Omega.{arith}
+use mathlib.Core.Path.{_≡_, refl, ap, _∙_}
+use mathlib.Core.List.{List, []}
 use lib.ListN.{length, take, length-map}
 use lib.Seq.{length-take-le}
 use Rattle.loc_leaf.specs.declared.Kind.{Kind}
-use Rattle.loc_leaf.specs.Area.{counted}
 use Rattle.loc_leaf.specs.Kind.{rowWidth}
 use Rattle.loc_calls.specs.Areas.{Three, Areas, sizes}
-use Rattle.loc_calls.specs.Table.{Entry}
 use Rattle.loc_calls.specs.Calls.{create}
 use Rattle.loc_calls.specs.Withheld.{withheldLimit, withheld}
 use Rattle.loc_calls.proofs.Settled.{not-1-nor-6}

@@ -6,7 +6,7 @@ use mathlib.Core.Logic.{_⊎_, inl, inr}
 use mathlib.Core.Bool.{true, false}
 use native.Mathlib.Nat.{mul-suc, mul-le-mul-left}
 use native.Mathlib.Omega.{arith}
-use lib.Dec.{leb, eqb}
+use lib.Dec.{leb}
 use lib.ListN.{length}
 use borrow.Author.Tests.{le-leb, lt-leb, leb-true, leb-false, eq-eqb, ne-eqb, eqb-true}
 use Rattle.loc_leaf.specs.declared.Kind.{Kind}
@@ -78,7 +78,7 @@ module _ (k : Kind) (s r c : Bytes) (f : Checked) (e : Checks k (areas s r c) f)
   cut-there p =
       rw (
         le-leb (d + rowWidth k) (length r)
-        (omega (arith, p .at, whole, counted-le r, mul-suc (rowWidth k) ((d - 16) / rowWidth k), mul-le-mul-left {m = suc ((d - 16) / rowWidth k)} {n = fill (rowWidth k) r} (rowWidth k) (p .before))),
+            (omega (arith, p .at, whole, counted-le r, mul-suc (rowWidth k) ((d - 16) / rowWidth k), mul-le-mul-left {m = suc ((d - 16) / rowWidth k)} {n = fill (rowWidth k) r} (rowWidth k) (p .before))),
         first-last k r ((d - 16) / rowWidth k) (omega (arith, p .before)) (holds-16 .rowsHold) l,
         ← p .at,
       ) refl

@@ -39,7 +39,13 @@ fn limit(kind: Kind, slots: &[u8], rows: &[u8], n: u64, end: u64, durable: u64) 
 }
 
 // 1, then 6.
-pub fn withheld_ovf_limit(kind: Kind, slots: &[u8], rows: &[u8], checkpoints: &[u8], durable: u64) -> Answer
+pub fn withheld_ovf_limit(
+    kind: Kind,
+    slots: &[u8],
+    rows: &[u8],
+    checkpoints: &[u8],
+    durable: u64,
+) -> Answer
     ensures { λ r. ⌜ r ≡ withheld kind durable (areas (now (slots .entry)) (now (rows .entry)) (now (checkpoints .entry))) .answer ⌝ }
 {
     let found = check_areas(kind, slots, rows, checkpoints);
