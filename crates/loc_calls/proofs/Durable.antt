@@ -34,17 +34,17 @@ use Rattle.loc_calls.proofs.Reading.{lacks-row, all-are, all-fails, row
 -- ---- lengths on a row's edge
 
 -- the end of the first r rows
-abbrev edge : Kind → ℕ → ℕ
+abbrev pub edge : Kind → ℕ → ℕ
 edge k r = 16 + rowWidth k * r
 
 -- how many rows end at or before a length
-abbrev rowsTo : Kind → ℕ → ℕ
+abbrev pub rowsTo : Kind → ℕ → ℕ
 rowsTo k d = (d - 16) / rowWidth k
 
-rows-to-edge : (k : Kind) (r : ℕ) → rowsTo k (edge k r) ≡ r
+pub rows-to-edge : (k : Kind) (r : ℕ) → rowsTo k (edge k r) ≡ r
 rows-to-edge k r = rw (add-sub-cancel-left 16 (rowWidth k * r)) (mul-div-cancel-left r (row-wide k))
 
-edge-is : (k : Kind) (d : ℕ) → onEdge k d ≡ true → d ≡ edge k (rowsTo k d)
+pub edge-is : (k : Kind) (d : ℕ) → onEdge k d ≡ true → d ≡ edge k (rowsTo k d)
 unfolding onEdge
 edge-is k d e = by k (leb-true 16 d (both-left (leb 16 d) (eqb ((d - 16) % rowWidth k) 0) e)) (eqb-true ((d - 16) % rowWidth k) 0 (both-right (leb 16 d) (eqb ((d - 16) % rowWidth k) 0) e))
   where
@@ -57,7 +57,7 @@ rows-to-past : (k : Kind) (r d : ℕ) → edge k r ≤ d → r ≤ rowsTo k d
 rows-to-past Paired r d h = omega arith
 rows-to-past Single r d h = omega arith
 
-edges-apart : (k : Kind) (r q : ℕ) → edge k r < edge k q → r < q
+pub edges-apart : (k : Kind) (r q : ℕ) → edge k r < edge k q → r < q
 edges-apart Paired r q h = omega arith
 edges-apart Single r q h = omega arith
 

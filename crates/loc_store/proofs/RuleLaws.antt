@@ -23,6 +23,7 @@ use Rattle.loc_leaf.proofs.AreaLaws.{length-storeLength, counted-storeLength, p
 use Rattle.loc_leaf.proofs.RowLaws.{last-none, last-some, rows-count}
 use Rattle.loc_calls.specs.Areas.{Areas, each, count, areas}
 use Rattle.loc_calls.specs.Stores.{truncatePlaces, nextRow, holdsNext, cutRule, ruledCount, ruled, openPlaces}
+use Rattle.loc_calls.proofs.Durable.{rows-to-edge}
 use Rattle.loc_store.specs.declared.Lengths.{Lengths}
 use Rattle.loc_store.specs.declared.Rules.{Rules}
 use Rattle.loc_store.specs.declared.Published.{Published}
@@ -88,11 +89,7 @@ module _ (k : Kind) (xs : Bytes) (p : ℕ) (h : p ≤ fill (rowWidth k) xs) (g :
 
   rows-fill : fill (rowWidth k) (fitted (counted xs) end xs) ≡ p
   unfolding fill
-  rows-fill = rw end-counted (by k)
-    where
-      by : (j : Kind) → (16 + rowWidth j * p - 16) / rowWidth j ≡ p
-      by Paired = omega arith
-      by Single = omega arith
+  rows-fill = rw end-counted (rows-to-edge k p)
 
   rows-first : rowList k (fitted (counted xs) end xs) ≡ take p (rowList k xs)
   unfolding rowList published

@@ -24,6 +24,7 @@ use Rattle.loc_calls.specs.Areas.{areas, count}
 use Rattle.loc_calls.specs.Stores.{rowBytesAt}
 use Rattle.loc_calls.specs.Withheld.{onEdge, limited, rowsBefore, withheldLimit, withheld}
 use Rattle.loc_calls.proofs.Outcomes.{answer-refused}
+use Rattle.loc_calls.proofs.Durable.{edge, rowsTo, edge-is, edges-apart}
 use Rattle.loc_store.specs.declared.Checked.{Checked}
 use Rattle.loc_store.specs.Areas.{HoldHeaders, Checks}
 use Rattle.loc_store.specs.Plans.{cutPast}
@@ -53,15 +54,6 @@ module _ (k : Kind) (d end n cut : ℕ) where
 
 -- ---- what number 6 has tested
 
--- the place of an edge below the end of so many rows
-record RowAt (k : Kind) (d m : ℕ) : Type 0 where
-  at : d ≡ 16 + rowWidth k * ((d - 16) / rowWidth k)
-  before : (d - 16) / rowWidth k < m
-
-row-at : (k : Kind) (d m : ℕ) → d < 16 + rowWidth k * m → 16 ≤ d → (d - 16) % rowWidth k ≡ 0 → RowAt k d m
-row-at Paired d m h g e = record { at = omega arith; before = omega arith }
-row-at Single d m h g e = record { at = omega arith; before = omega arith }
-
 module _ (k : Kind) (s r c : Bytes) (f : Checked) (e : Checks k (areas s r c) f) (h : f .number ≡ 0) (l : length r < 2 ^ 64) (d : ℕ) where
   holds-16 : HoldHeaders (areas s r c)
   holds-16 = accepted-sized k s r c (f .number) (e .number) h
@@ -73,14 +65,16 @@ module _ (k : Kind) (s r c : Bytes) (f : Checked) (e : Checks k (areas s r c) f)
   abbrev cut : ℕ
   cut = cutFor k s (fill 2 s) (lastNumber 0 (rowsBefore k d r)) (rowBytesAt k d r)
 
-  cut-there : RowAt k d (fill (rowWidth k) r) → cutPast k s r (fill 2 s) d ≡ cut
+  cut-there : d < counted r → onEdge k d ≡ true → cutPast k s r (fill 2 s) d ≡ cut
   unfolding cutPast rowsBefore
-  cut-there p =
+  cut-there h q =
+      let at : d ≡ edge k (rowsTo k d) = edge-is k d q in
+      let before : rowsTo k d < fill (rowWidth k) r = edges-apart k (rowsTo k d) (fill (rowWidth k) r) (omega (arith, whole)) in
       rw (
         le-leb (d + rowWidth k) (length r)
-            (omega (arith, p .at, whole, counted-le r, mul-suc (rowWidth k) ((d - 16) / rowWidth k), mul-le-mul-left {m = suc ((d - 16) / rowWidth k)} {n = fill (rowWidth k) r} (rowWidth k) (p .before))),
-        first-last k r ((d - 16) / rowWidth k) (omega (arith, p .before)) (holds-16 .rowsHold) l,
-        ← p .at,
+        (omega (arith, whole, counted-le r, mul-suc (rowWidth k) (rowsTo k d), mul-le-mul-left {m = suc (rowsTo k d)} {n = fill (rowWidth k) r} (rowWidth k) before)),
+        first-last k r (rowsTo k d) (omega arith) (holds-16 .rowsHold) l,
+        ← at,
       ) refl
 
   same-limit : limited k d (counted r) (fill 2 s) (cutPast k s r (fill 2 s) d) ≡ limited k d (counted r) (fill 2 s) cut
@@ -90,9 +84,7 @@ module _ (k : Kind) (s r c : Bytes) (f : Checked) (e : Checks k (areas s r c) f)
       go : (leb (counted r) d ≡ true) ⊎ (leb (counted r) d ≡ false) → (onEdge k d ≡ true) ⊎ (onEdge k d ≡ false)
           → limited k d (counted r) (fill 2 s) (cutPast k s r (fill 2 s) d) ≡ limited k d (counted r) (fill 2 s) cut
       go (inl p) q = rw p refl
-      go (inr p) (inl q) =
-          ap (limited k d (counted r) (fill 2 s))
-          (cut-there (row-at k d (fill (rowWidth k) r) (omega (arith, whole, leb-false (counted r) d p)) (leb-true 16 d (both-left (leb 16 d) _ q)) (eqb-true ((d - 16) % rowWidth k) 0 (both-right (leb 16 d) _ q))))
+      go (inr p) (inl q) = ap (limited k d (counted r) (fill 2 s)) (cut-there (leb-false (counted r) d p) q)
       go (inr p) (inr q) = rw (p, q) refl
 
   limit-is : limited k d (f .ends .rows) (f .count) (cutPast k s r (f .count) d) ≡ withheldLimit k d (areas s r c)
