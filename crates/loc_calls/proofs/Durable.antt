@@ -24,7 +24,7 @@ use Rattle.loc_calls.specs.Areas.{Areas, count}
 use Rattle.loc_calls.specs.Table.{Entry}
 use Rattle.loc_calls.specs.Stores.{rowBytesAt, nextRow, holdsNext, cutRule}
 use Rattle.loc_calls.specs.Reading.{allAfter, lookupAt, has}
-use Rattle.loc_calls.specs.Withheld.{onEdge, limited, rowsBefore, withheldLimit, durableAt, allDurable, Durable}
+use Rattle.loc_calls.specs.Withheld.{onEdge, limited, rowsBefore, cutAt, withheldLimit, durableAt, allDurable, Durable}
 use Rattle.loc_calls.proofs.Holds.{set-length, forget}
 use Rattle.loc_calls.proofs.Gathered.{rowsOf, NextRow, next-row, next-total, next-before, rows-take}
 use Rattle.loc_calls.proofs.State.{State, count-is, few, row-list, row-wide, slot-at, cut-next}
@@ -60,6 +60,16 @@ rows-to-past Single r d h = omega arith
 pub edges-apart : (k : Kind) (r q : ℕ) → edge k r < edge k q → r < q
 edges-apart Paired r q h = omega arith
 edges-apart Single r q h = omega arith
+
+-- what the cut is counts only on an edge below the end
+pub limited-same : (k : Kind) (d end n x y : ℕ) → (d < end → onEdge k d ≡ true → x ≡ y) → limited k d end n x ≡ limited k d end n y
+unfolding limited
+limited-same k d end n x y h = go (is? (leb end d)) (is? (onEdge k d))
+  where
+    go : (leb end d ≡ true) ⊎ (leb end d ≡ false) → (onEdge k d ≡ true) ⊎ (onEdge k d ≡ false) → limited k d end n x ≡ limited k d end n y
+    go (inl p) q = rw p refl
+    go (inr p) (inl q) = ap (limited k d end n) (h (leb-false end d p) q)
+    go (inr p) (inr q) = rw (p, q) refl
 
 -- ---- areas that hold a list whole
 
@@ -123,27 +133,16 @@ module _ (k : Kind) (a : Areas) (E : List Entry) (s : Full k a E) where
         (le-leb (edge k r + rowWidth k) (length (a .rows))
         (omega (arith, s .rows .room, ap (λ (l : List Bytes). rowWidth k * length l) all-held, mul-suc (rowWidth k) r, mul-le-mul-left {m = suc r} {n = R} (rowWidth k) h)))
 
-    on-edge : onEdge k (edge k r) ≡ true
-    unfolding onEdge
-    on-edge = rw (le-leb 16 (edge k r) (omega arith), add-sub-cancel-left 16 (rowWidth k * r), mul-mod-right (rowWidth k) r) refl
-
-    limit-cut : withheldLimit k (edge k r) a ≡ cutRule k upTo
-    unfolding withheldLimit limited cutRule count
-    limit-cut =
-        rw (
-          end-is,
-          lt-leb (edge k R) (edge k r) (omega (arith, mul-suc (rowWidth k) r, mul-le-mul-left {m = suc r} {n = R} (rowWidth k) h, row-wide k)),
-          on-edge,
-          rows-first,
-          row-there,
-          next-held,
-        ) refl
+    -- the cut rule meets what opening's would meet
+    cut-there : cutAt k (edge k r) a ≡ cutRule k upTo
+    unfolding cutAt cutRule count
+    cut-there = rw (rows-first, row-there, next-held) refl
 
     abbrev t : NextRow k 0 r E
     t = next-row k 0 r E h
 
-    limit-next : withheldLimit k (edge k r) a ≡ length (t .first)
-    limit-next = limit-cut ∙ cut-next k upTo E r (length E / 1024) up-to-state t
+    cut-first : cutAt k (edge k r) a ≡ length (t .first)
+    cut-first = cut-there ∙ cut-next k upTo E r (length E / 1024) up-to-state t
 
     first-taken : take (length (t .first)) E ≡ t .first
     first-taken = ap (take (length (t .first))) (t .split) ∙ take-append-seam (t .first) _
@@ -188,6 +187,10 @@ module _ (k : Kind) (a : Areas) (E : List Entry) (s : Full k a E) where
     unfolding withheldLimit limited
     limit-off p q = rw (p, q) refl
 
+    limit-on : leb (counted (a .rows)) d ≡ false → onEdge k d ≡ true → withheldLimit k d a ≡ cutAt k d a
+    unfolding withheldLimit limited
+    limit-on p q = rw (p, q) refl
+
     pub durable-limit : Durable k d a (withheldLimit k d a)
     durable-limit = go (is? (leb (counted (a .rows)) d)) (is? (onEdge k d))
       where
@@ -199,7 +202,7 @@ module _ (k : Kind) (a : Areas) (E : List Entry) (s : Full k a E) where
         })
         go (inr p) (inl q) =
             let h : rowsTo k d < R = fewer (leb-false (counted (a .rows)) d p) q in
-            subst (λ (i : ℕ). Durable k i a (withheldLimit k i a)) (sym (edge-is k d q)) (rw (limit-next (rowsTo k d) h) (durable-edge (rowsTo k d) h))
+            rw (limit-on p q) (subst (λ (i : ℕ). Durable k i a (cutAt k i a)) (sym (edge-is k d q)) (rw (cut-first (rowsTo k d) h) (durable-edge (rowsTo k d) h)))
         go (inr p) (inr q) = rw (limit-off p q) (record {
           inside = omega arith;
           durable = unfold allAfter in refl;
@@ -208,14 +211,10 @@ module _ (k : Kind) (a : Areas) (E : List Entry) (s : Full k a E) where
 
     -- where the longest first part with no more rows than lie before the length has n records, n is the cut
     pub limit-kept : (n : ℕ) → Kept k E (rowsTo k d) (length E / 1024) n → withheldLimit k d a ≡ limited k d (counted (a .rows)) (length E) n
-    unfolding limited
-    limit-kept n g = go (is? (leb (counted (a .rows)) d)) (is? (onEdge k d))
+    unfolding withheldLimit
+    limit-kept n g = limited-same k d (counted (a .rows)) (count a) (cutAt k d a) n cut ∙ ap (λ (c : ℕ). limited k d (counted (a .rows)) c n) (count-is k a E _ _ s)
       where
-        go : (leb (counted (a .rows)) d ≡ true) ⊎ (leb (counted (a .rows)) d ≡ false) → (onEdge k d ≡ true) ⊎ (onEdge k d ≡ false)
-            → withheldLimit k d a ≡ limited k d (counted (a .rows)) (length E) n
-        go (inl p) q = limit-past d (leb-true (counted (a .rows)) d p) ∙ rw p refl
-        go (inr p) (inl q) =
-            let h : rowsTo k d < R = fewer (leb-false (counted (a .rows)) d p) q in
-            ap (λ (i : ℕ). withheldLimit k i a) (edge-is k d q) ∙ limit-cut (rowsTo k d) h
-            ∙ cut-keeps k (upTo (rowsTo k d) h) E (rowsTo k d) (length E / 1024) n (up-to-state (rowsTo k d) h) g (omega arith) ∙ rw (p, q) refl
-        go (inr p) (inr q) = limit-off p q ∙ rw (p, q) refl
+        cut : d < counted (a .rows) → onEdge k d ≡ true → cutAt k d a ≡ n
+        cut h e =
+            ap (λ (i : ℕ). cutAt k i a) (edge-is k d e) ∙ cut-there (rowsTo k d) (fewer h e)
+            ∙ cut-keeps k (upTo (rowsTo k d) (fewer h e)) E (rowsTo k d) (length E / 1024) n (up-to-state (rowsTo k d) (fewer h e)) g (omega arith)

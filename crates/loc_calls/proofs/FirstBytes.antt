@@ -30,7 +30,7 @@ use Rattle.loc_calls.specs.Reading.{lookupAt, valueAt, stridesAfter, spa
 use Rattle.loc_calls.specs.Audit.{bodyEndAfter, spanEndAfter, checkpointSound, rowSound, rowsSound, sound}
 use Rattle.loc_calls.specs.SpanAt.{spanAmong, spanAt, spanAtOutcome}
 use Rattle.loc_calls.specs.Parts.{partsRefusal, parts}
-use Rattle.loc_calls.specs.Withheld.{onEdge, limited, rowsBefore, withheldLimit, withheld}
+use Rattle.loc_calls.specs.Withheld.{onEdge, limited, rowsBefore, cutAt, withheldLimit, withheld}
 use Rattle.loc_calls.specs.Calls.{unlessRefused, tooSmall, firstRefusal, wholeRefusal, unread, refusal, places, buffer, areasAfter, call, createPlaces, create, audit}
 use Rattle.loc_calls.specs.Guarantees.{AnyCall, indexCall, creation, auditing, locating, composing, limiting, outcome, SameFrom8, SameOutcome, Unread, FirstBytesUnread, Unwritten, FirstBytesUnwritten}
 
@@ -268,7 +268,7 @@ module _ (k : Kind) {a b : Areas} (h : AllSame a b) where
 
   -- a row on an edge lies at 16 or later
   limit-same : (d : ℕ) → withheldLimit k d a ≡ withheldLimit k d b
-  unfolding withheldLimit limited rowsBefore cutFor cuts onEdge
+  unfolding withheldLimit limited cutAt rowsBefore cutFor cuts onEdge
   limit-same d = go (is? (onEdge k d))
     where
       go : (onEdge k d ≡ true) ⊎ (onEdge k d ≡ false) → withheldLimit k d a ≡ withheldLimit k d b

@@ -33,10 +33,11 @@ unfoldable pub rowsBefore : Kind → ℕ → Bytes → List Bytes
 rowsBefore k d rows = take ((d - 16) / rowWidth k) (rowList k rows)
 
 -- the cut rule runs on the row at that length, the last row before it counting as last; no cut gives the count
+unfoldable pub cutAt : Kind → ℕ → Areas → ℕ
+cutAt k d a = cutFor k (a .slots) (count a) (lastNumber 0 (rowsBefore k d (a .rows))) (rowBytesAt k d (a .rows))
+
 unfoldable pub withheldLimit : Kind → ℕ → Areas → ℕ
-withheldLimit k d a =
-    limited k d (counted (a .rows)) (count a)
-    (cutFor k (a .slots) (count a) (lastNumber 0 (rowsBefore k d (a .rows))) (rowBytesAt k d (a .rows)))
+withheldLimit k d a = limited k d (counted (a .rows)) (count a) (cutAt k d a)
 
 -- 1 and 6 apply
 unfoldable pub withheld : Kind → ℕ → Areas → Outcome

@@ -1,6 +1,6 @@
 -- The limit in the form in which the code meets it, and that it is what loc_calls says of areas that number 6 lets pass.
 -- There the rows are whole, so the row at an edge below their end is one of them.
-use Prim.Native.Nat.{ℕ, suc, _+_, _-_, _*_, _/_, _%_, _^_, _≤_, _<_}
+use Prim.Native.Nat.{ℕ, suc, _+_, _-_, _*_, _%_, _^_, _≤_, _<_}
 use mathlib.Core.Path.{_≡_, refl, ap}
 use mathlib.Core.Logic.{_⊎_, inl, inr}
 use mathlib.Core.Bool.{true, false}
@@ -8,9 +8,8 @@ use native.Mathlib.Nat.{mul-suc, mul-le-mul-left}
 use native.Mathlib.Omega.{arith}
 use lib.Dec.{leb}
 use lib.ListN.{length}
-use borrow.Author.Tests.{le-leb, lt-leb, leb-true, leb-false, eq-eqb, ne-eqb, eqb-true}
+use borrow.Author.Tests.{le-leb, lt-leb, leb-false, eq-eqb, ne-eqb}
 use Rattle.loc_leaf.specs.declared.Kind.{Kind}
-use Rattle.loc_leaf.specs.declared.Kind.the-variants.{Paired, Single}
 use Rattle.loc_leaf.specs.declared.Answer.{Answer}
 use Rattle.loc_leaf.specs.Bytes.{Bytes}
 use Rattle.loc_leaf.specs.Answers.{acceptedWith, refusedBy, answer}
@@ -18,13 +17,13 @@ use Rattle.loc_leaf.specs.Area.{counted, fill}
 use Rattle.loc_leaf.specs.Kind.{rowWidth}
 use Rattle.loc_leaf.specs.Rows.{lastNumber}
 use Rattle.loc_leaf.specs.Cut.{cutFor}
-use Rattle.loc_leaf.proofs.Booleans.{is?, both-left, both-right}
+use Rattle.loc_leaf.proofs.Booleans.{is?}
 use Rattle.loc_leaf.proofs.AreaLaws.{counted-le}
 use Rattle.loc_calls.specs.Areas.{areas, count}
 use Rattle.loc_calls.specs.Stores.{rowBytesAt}
-use Rattle.loc_calls.specs.Withheld.{onEdge, limited, rowsBefore, withheldLimit, withheld}
+use Rattle.loc_calls.specs.Withheld.{onEdge, limited, rowsBefore, cutAt, withheldLimit, withheld}
 use Rattle.loc_calls.proofs.Outcomes.{answer-refused}
-use Rattle.loc_calls.proofs.Durable.{edge, rowsTo, edge-is, edges-apart}
+use Rattle.loc_calls.proofs.Durable.{edge, rowsTo, edge-is, edges-apart, limited-same}
 use Rattle.loc_store.specs.declared.Checked.{Checked}
 use Rattle.loc_store.specs.Areas.{HoldHeaders, Checks}
 use Rattle.loc_store.specs.Plans.{cutPast}
@@ -61,35 +60,22 @@ module _ (k : Kind) (s r c : Bytes) (f : Checked) (e : Checks k (areas s r c) f)
   whole : counted r ≡ 16 + rowWidth k * fill (rowWidth k) r
   whole = accepted-rows k s r c (f .number) (e .number) h
 
-  -- the cut rule on the row at an edge below the published end
-  abbrev cut : ℕ
-  cut = cutFor k s (fill 2 s) (lastNumber 0 (rowsBefore k d r)) (rowBytesAt k d r)
-
-  cut-there : d < counted r → onEdge k d ≡ true → cutPast k s r (fill 2 s) d ≡ cut
-  unfolding cutPast rowsBefore
+  -- on an edge below the published end the cut is that of loc_calls
+  cut-there : d < counted r → onEdge k d ≡ true → cutPast k s r (fill 2 s) d ≡ cutAt k d (areas s r c)
+  unfolding cutPast cutAt rowsBefore count
   cut-there h q =
       let at : d ≡ edge k (rowsTo k d) = edge-is k d q in
       let before : rowsTo k d < fill (rowWidth k) r = edges-apart k (rowsTo k d) (fill (rowWidth k) r) (omega (arith, whole)) in
       rw (
         le-leb (d + rowWidth k) (length r)
-        (omega (arith, whole, counted-le r, mul-suc (rowWidth k) (rowsTo k d), mul-le-mul-left {m = suc (rowsTo k d)} {n = fill (rowWidth k) r} (rowWidth k) before)),
+            (omega (arith, whole, counted-le r, mul-suc (rowWidth k) (rowsTo k d), mul-le-mul-left {m = suc (rowsTo k d)} {n = fill (rowWidth k) r} (rowWidth k) before)),
         first-last k r (rowsTo k d) (omega arith) (holds-16 .rowsHold) l,
         ← at,
       ) refl
 
-  same-limit : limited k d (counted r) (fill 2 s) (cutPast k s r (fill 2 s) d) ≡ limited k d (counted r) (fill 2 s) cut
-  unfolding limited onEdge
-  same-limit = go (is? (leb (counted r) d)) (is? (onEdge k d))
-    where
-      go : (leb (counted r) d ≡ true) ⊎ (leb (counted r) d ≡ false) → (onEdge k d ≡ true) ⊎ (onEdge k d ≡ false)
-          → limited k d (counted r) (fill 2 s) (cutPast k s r (fill 2 s) d) ≡ limited k d (counted r) (fill 2 s) cut
-      go (inl p) q = rw p refl
-      go (inr p) (inl q) = ap (limited k d (counted r) (fill 2 s)) (cut-there (leb-false (counted r) d p) q)
-      go (inr p) (inr q) = rw (p, q) refl
-
   limit-is : limited k d (f .ends .rows) (f .count) (cutPast k s r (f .count) d) ≡ withheldLimit k d (areas s r c)
   unfolding withheldLimit count
-  limit-is = rw (e .ends .rows, e .count) same-limit
+  limit-is = rw (e .ends .rows, e .count) (limited-same k d (counted r) (fill 2 s) _ _ cut-there)
 
   pub withheld-accepted : (v : ℕ) (x : Answer) → v ≡ limited k d (f .ends .rows) (f .count) (cutPast k s r (f .count) d) → x ≡ acceptedWith v → x ≡ withheld k d (areas s r c) .answer
   unfolding withheld answer
