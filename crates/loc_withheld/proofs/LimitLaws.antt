@@ -1,26 +1,20 @@
 -- The limit in the form in which the code meets it, and that it is what loc_calls says of areas that number 6 lets pass.
 -- There the rows are whole, so the row at an edge below their end is one of them.
 use Prim.Native.Nat.{ℕ, suc, _+_, _-_, _*_, _%_, _^_, _≤_, _<_}
-use mathlib.Core.Path.{_≡_, refl, ap}
-use mathlib.Core.Logic.{_⊎_, inl, inr}
-use mathlib.Core.Bool.{true, false}
+use mathlib.Core.Path.{_≡_, refl}
+use mathlib.Core.Bool.{true}
 use native.Mathlib.Nat.{mul-suc, mul-le-mul-left}
 use native.Mathlib.Omega.{arith}
-use lib.Dec.{leb}
 use lib.ListN.{length}
-use borrow.Author.Tests.{le-leb, lt-leb, leb-false, eq-eqb, ne-eqb}
+use borrow.Author.Tests.{le-leb, lt-leb, eq-eqb, ne-eqb}
 use Rattle.loc_leaf.specs.declared.Kind.{Kind}
 use Rattle.loc_leaf.specs.declared.Answer.{Answer}
 use Rattle.loc_leaf.specs.Bytes.{Bytes}
 use Rattle.loc_leaf.specs.Answers.{acceptedWith, refusedBy, answer}
 use Rattle.loc_leaf.specs.Area.{counted, fill}
 use Rattle.loc_leaf.specs.Kind.{rowWidth}
-use Rattle.loc_leaf.specs.Rows.{lastNumber}
-use Rattle.loc_leaf.specs.Cut.{cutFor}
-use Rattle.loc_leaf.proofs.Booleans.{is?}
 use Rattle.loc_leaf.proofs.AreaLaws.{counted-le}
 use Rattle.loc_calls.specs.Areas.{areas, count}
-use Rattle.loc_calls.specs.Stores.{rowBytesAt}
 use Rattle.loc_calls.specs.Withheld.{onEdge, limited, rowsBefore, cutAt, withheldLimit, withheld}
 use Rattle.loc_calls.proofs.Outcomes.{answer-refused}
 use Rattle.loc_calls.proofs.Durable.{edge, rowsTo, edge-is, edges-apart, limited-same}
