@@ -1,5 +1,5 @@
 -- A call on the areas: its number, value, answer buffer, and the areas after the stores of its first s places
--- (document 01, "What each call gives"). Open, append, truncate and read are `call`; `create` and `audit` stand by themselves, as do `spanAt` (SpanAt) and `parts` (Parts).
+-- (document 01, "What each call gives"). Open, append, truncate and read are `call`; `create` and `audit` stand by themselves, as do `spanAt` (SpanAt), `parts` (Parts) and `withheld` (Withheld).
 use Prim.Native.Nat.{ℕ, zero, suc}
 use mathlib.Core.Bool.{Bool, true, false, cond, not}
 use mathlib.Core.List.{List, [], _∷_}

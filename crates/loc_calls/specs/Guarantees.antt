@@ -14,8 +14,8 @@ use Rattle.loc_calls.specs.Withheld.{withheld}
 
 -- ---- every call
 
--- open, append, truncate and read of a kind, at s places; create; audit of a kind; span_at an address; the parts of a record; how many
--- records are durable at a length of the rows
+-- open, append, truncate and read of a kind, at s places; create; audit of a kind; span_at an address; the parts of a record;
+-- of a kind how many records are durable at a length of the rows
 pub data AnyCall : Type 0 where
   indexCall : Kind → ℕ → Call → AnyCall
   creation : AnyCall

@@ -111,7 +111,7 @@ fn call_refusal(kind: Kind, slots: &[u8], rows: &[u8], checkpoints: &[u8], p: Pu
     }
 }
 
-// What append, truncation, reading and audit begin with.
+// What every call but creation and opening begins with.
 pub fn check_areas(kind: Kind, slots: &[u8], rows: &[u8], checkpoints: &[u8]) -> Checked
     ensures { λ r. ⌜ Checks kind (areas (now (slots .entry)) (now (rows .entry)) (now (checkpoints .entry))) r ⌝ }
 {
