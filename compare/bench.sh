@@ -2,7 +2,7 @@
 # The benchmark: port and original in one process on the same data, both built for release. Prints its result and tables in Markdown.
 #   sh compare/bench.sh                    all tables: some minutes, on a quiet machine
 #   sh compare/bench.sh --quick            a look, with fewer rounds
-#   sh compare/bench.sh reading storing    these tables only (reading, growth, storing, listing, load, span_at, parts, audit, size, numbers)
+#   sh compare/bench.sh reading storing    these tables only (reading, growth, storing, listing, load, span_at, parts, audit, durable, size, numbers)
 #   SHIFT=32 sh compare/bench.sh           with the archive's code moved so many bytes in the link: where its loops lie matters (docs/PERFORMANCE.md)
 #   sh compare/bench.sh --document         all tables, put into docs/PERFORMANCE.md from its section Result to its last section
 set -eu
