@@ -60,23 +60,18 @@ pub struct Composed {
     pub times: Needed,
 }
 
-/// An audit of one index.
-pub struct Audited {
+/// One index, and what was measured on it.
+pub struct On<T> {
     pub kind: Kind,
     pub records: u64,
     pub density: &'static str,
     pub rows: usize,
-    pub times: Audit,
+    pub times: T,
 }
 
-/// How many records of one index are durable.
-pub struct Limited {
-    pub kind: Kind,
-    pub records: u64,
-    pub density: &'static str,
-    pub rows: usize,
-    pub times: Limit,
-}
+/// An audit, and how many records are durable.
+pub type Audited = On<Audit>;
+pub type Limited = On<Limit>;
 
 /// All calls on an index of one size.
 pub struct Sized {
@@ -124,15 +119,29 @@ fn workloads(index: &Index, density: &'static str, setting: &Setting) -> Vec<Lin
 
 const SIZES: [u64; 3] = [1_000, 100_000, 1_000_000];
 
-/// Reading at three sizes: every workload, without rows, with 1 % and with 10 %.
-pub fn reading_table(run: &mut Run, folder: &Folder, setting: &Setting) {
+/// An index of each kind at three sizes: without rows, with 1 % and with 10 %.
+fn indexes(folder: &Folder, mut each: impl FnMut(&Index, &'static str)) {
     for kind in KINDS {
         for records in SIZES {
             for (density, one_in) in DENSITIES {
-                run.reading.extend(workloads(&build(kind, folder, records, one_in), density, setting));
+                each(&build(kind, folder, records, one_in), density);
             }
         }
     }
+}
+
+fn on<T>(folder: &Folder, setting: &Setting, measured: fn(&Index, &Setting) -> T) -> Vec<On<T>> {
+    let mut list = Vec::new();
+    indexes(folder, |index, density| {
+        let times = measured(index, setting);
+        list.push(On { kind: index.kind, records: index.records, density, rows: index.row_count(), times });
+    });
+    list
+}
+
+/// Reading: every workload on each of these.
+pub fn reading_table(run: &mut Run, folder: &Folder, setting: &Setting) {
+    indexes(folder, |index, density| run.reading.extend(workloads(index, density, setting)));
 }
 
 pub const GROWTH: [u64; 7] = [100_000, 200_000, 500_000, 1_000_000, 2_000_000, 5_000_000, 10_000_000];
@@ -200,30 +209,14 @@ pub fn parts_table(run: &mut Run, folder: &Folder, setting: &Setting) {
     run.parts.extend(SHAPES.map(|shape| Composed { shape, times: parts(&index, shape, setting) }));
 }
 
-/// Audits at the same sizes.
-/// How many records are durable: by the number of rows, which the check of 6 goes over.
-pub fn durable_table(run: &mut Run, folder: &Folder, setting: &Setting) {
-    for kind in KINDS {
-        for records in SIZES {
-            for (density, one_in) in DENSITIES {
-                let index = build(kind, folder, records, one_in);
-                let times = durable(&index, setting);
-                run.durable.push(Limited { kind, records, density, rows: index.row_count(), times });
-            }
-        }
-    }
+/// Audits.
+pub fn audit_table(run: &mut Run, folder: &Folder, setting: &Setting) {
+    run.audit = on(folder, setting, audit);
 }
 
-pub fn audit_table(run: &mut Run, folder: &Folder, setting: &Setting) {
-    for kind in KINDS {
-        for records in SIZES {
-            for (density, one_in) in DENSITIES {
-                let index = build(kind, folder, records, one_in);
-                let times = audit(&index, setting);
-                run.audit.push(Audited { kind, records, density, rows: index.row_count(), times });
-            }
-        }
-    }
+/// How many records are durable, by the number of rows, which the check of 6 goes over.
+pub fn durable_table(run: &mut Run, folder: &Folder, setting: &Setting) {
+    run.durable = on(folder, setting, durable);
 }
 
 /// How cost grows with the index and its rows.
