@@ -6,13 +6,14 @@ use mathlib.Core.List.{List, []}
 use lib.ListN.{length, take, length-map}
 use lib.Seq.{length-take-le}
 use Rattle.loc_leaf.specs.declared.Kind.{Kind}
+use Rattle.loc_leaf.specs.Area.{counted}
 use Rattle.loc_leaf.specs.Kind.{rowWidth}
 use Rattle.loc_calls.specs.Areas.{Three, Areas, sizes}
 use Rattle.loc_calls.specs.Calls.{create}
-use Rattle.loc_calls.specs.Withheld.{withheldLimit, withheld}
+use Rattle.loc_calls.specs.Withheld.{limited, withheldLimit, withheld}
 use Rattle.loc_calls.proofs.Settled.{not-1-nor-6}
 use Rattle.loc_calls.proofs.Durable.{limit-kept, durable-limit}
-use Rattle.loc_history.specs.Book.{Rec, recOf, checkpointCount, longestPart, bookWithheld}
+use Rattle.loc_history.specs.Book.{Rec, recOf, checkpointCount, bookEnds, longestPart, bookWithheld}
 use Rattle.loc_history.specs.History.{indexAtEnd, bookAtEnd}
 use Rattle.loc_history.specs.Durable.{Limit, WithheldOfHistories}
 use Rattle.loc_history.proofs.BookLaws.{LongestPart, longest-part}
@@ -29,11 +30,13 @@ module _ (k : Kind) (a : Areas) (L : List Rec) (t : Steady k a L) (d : ℕ) wher
       ∙ ap (λ (l : List Rec). length (longestPart k (length (t .E) / 1024) ((d - 16) / rowWidth k) l)) (t .is)
       ∙ ap length (part .is) ∙ length-map (take (part .n) (t .E)) recOf ∙ length-take-le (part .n) (t .E) (part .kept .inside)
 
+  -- the same by the book's own ends and counts
+  by-book : limited k d (counted (a .rows)) (length (t .E)) (part .n) ≡ limited k d ((bookEnds k L) .rows) (length L) (length (longestPart k (checkpointCount L) ((d - 16) / rowWidth k) L))
+  by-book = rw (part-length, same-length k a L t, ← ap (λ (e : Three ℕ). e .rows) (steady-stores k a L t .ends)) refl
+
   limit-book : withheldLimit k d a ≡ bookWithheld k d L
   unfolding bookWithheld
-  limit-book =
-      limit-kept k a (t .E) (t .full) d (part .n) (part .kept)
-      ∙ rw (part-length, same-length k a L t, ← ap (λ (e : Three ℕ). e .rows) (steady-stores k a L t .ends)) refl
+  limit-book = limit-kept k a (t .E) (t .full) d (part .n) (part .kept) ∙ by-book
 
   pub limit : Limit k a L d
   limit = record {
