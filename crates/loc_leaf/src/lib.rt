@@ -1,12 +1,14 @@
 // The leaf crate: bytes and lengths of an area, strides, slots, rows, the block step.
 // Every public function is total: what lies past an end reads as the definition in specs/ says.
+#![tactic(auto)]
+
 pub mod delta_loc;
 pub mod file;
 pub mod loc_simd;
 pub mod refusal;
 
 // Paired: strides and span counts (`create_loc`). Single: strides alone (`delta_loc`).
-#[derive(Drop)]
+#[derive(Clone, Copy)]
 pub enum Kind {
     Paired,
     Single,
