@@ -140,7 +140,7 @@ run_same : {a b : Areas} (s : ℕ) (ps : List Place) → AllSame a b → AllSame
 unfolding run
 run_same zero ps h = h
 run_same (suc s) [] h = h
-run_same (suc s) (p ∷ ps) h = run_same s ps (step_same p h)
+run_same {a = a} {b = b} (suc s) (p ∷ ps) h = run_same {a = step p a} {b = step p b} s ps (step_same p h)
 
 unless_same : {a b c d : Areas} (n : ℕ) → AllSame c d → AllSame a b → AllSame (unless_refused n c a) (unless_refused n d b)
 unfolding unless_refused
