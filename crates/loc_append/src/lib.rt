@@ -7,7 +7,7 @@ pub mod run;
 use loc_store::Lengths;
 
 // What an append of n records after `base` others is to store: bytes past the old ends, then the new ends.
-#[derive(Drop)]
+#[derive(Clone, Copy)]
 pub struct Stage {
     pub base: u64,
     pub n: usize,
@@ -16,7 +16,7 @@ pub struct Stage {
 }
 
 // A refusal, or 0 and the stage.
-#[derive(Drop)]
+#[derive(Clone, Copy)]
 pub struct Decision {
     pub number: u64,
     pub stage: Stage,

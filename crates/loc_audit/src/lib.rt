@@ -4,21 +4,21 @@ pub mod audit;
 pub mod pass;
 
 // Where the records so far end, body and span, both from 16 on.
-#[derive(Drop)]
+#[derive(Clone, Copy)]
 pub struct Ends {
     pub body: u64,
     pub span: u64,
 }
 
 // A sum below 2^64, or that it would pass that.
-#[derive(Drop)]
+#[derive(Clone, Copy)]
 pub enum Sum {
     Below(u64),
     Past,
 }
 
 // The ends after so many records, or that the index is not sound.
-#[derive(Drop)]
+#[derive(Clone, Copy)]
 pub enum Step {
     Next(Ends),
     Unsound,

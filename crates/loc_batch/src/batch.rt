@@ -46,7 +46,7 @@ pub fn rows_of(kind: Kind, e: Record) -> usize
 }
 
 // The first refusal of a record, and how many rows the records stage where there is none.
-#[derive(Drop)]
+#[derive(Clone, Copy)]
 pub struct CheckedBatch {
     pub number: u64,
     pub rows: usize,

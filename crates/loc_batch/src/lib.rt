@@ -5,7 +5,7 @@ pub mod entry;
 pub mod staging;
 
 // One record of a batch.
-#[derive(Drop)]
+#[derive(Clone, Copy)]
 pub struct Record {
     pub start: u64,
     pub len: u64,

@@ -3,7 +3,7 @@
 #![tactic(auto)]
 
 // The record whose span range holds an address, the index of the span in it, and the remainder; all three are 0 on a refusal.
-#[derive(Drop)]
+#[derive(Clone, Copy)]
 pub struct SpanAt {
     pub number: u64,
     pub record: u64,

@@ -5,7 +5,7 @@ use loc_lent::parts::plus;
 
 // The command's first letter, the first two letters of the case's words, and where the words begin, with the space before
 // them, and end.
-#[derive(Drop)]
+#[derive(Clone, Copy)]
 pub struct Line {
     pub command: u8,
     pub first: u8,

@@ -17,7 +17,7 @@ use loc_total::window::window_total;
 use loc_window::checkpoint::window_end;
 
 // Where the list ends in each stream, saturated; or 17, where its last record cannot be read.
-#[derive(Drop)]
+#[derive(Clone, Copy)]
 pub struct End {
     pub number: u64,
     pub body: u64,

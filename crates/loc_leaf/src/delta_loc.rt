@@ -24,7 +24,7 @@ pub const ROW_STRIDES: usize = 8;
 pub const ROW_SPANS: usize = 12;
 
 // What a search for a record's row, or a slot's values, finds.
-#[derive(Drop)]
+#[derive(Clone, Copy)]
 pub enum Lookup {
     Found(Value),
     Missing,

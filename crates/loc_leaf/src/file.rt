@@ -129,7 +129,7 @@ pub fn logical_len(area: &[u8]) -> usize
 }
 
 // What an area publishes in pieces of a width: up to which place, how many whole ones, and how many bytes are left over.
-#[derive(Drop)]
+#[derive(Clone, Copy)]
 pub struct Pieces {
     pub end: usize,
     pub count: usize,

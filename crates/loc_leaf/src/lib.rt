@@ -15,14 +15,14 @@ pub enum Kind {
 }
 
 // What a slot or a row says of a record; the span count is 0 where single.
-#[derive(Drop)]
+#[derive(Clone, Copy)]
 pub struct Value {
     pub strides: u32,
     pub spans: u32,
 }
 
 // A call's refusal and value: 0 and the value, or the number and 0.
-#[derive(Drop)]
+#[derive(Clone, Copy)]
 pub struct Answer {
     pub number: u64,
     pub value: u64,

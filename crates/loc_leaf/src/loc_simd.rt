@@ -138,7 +138,7 @@ fn first_sums(lo: u64, hi: u64) -> [u32; 8]
     ]
 }
 
-#[derive(Drop)]
+#[derive(Clone, Copy)]
 pub struct Sums {
     pub tx: [u32; 8],
     pub sp: [u32; 8],

@@ -4,7 +4,7 @@ use loc_calls::SpanAt;
 use loc_index::{create_loc, delta_loc};
 use loc_leaf::{Answer, Kind};
 
-#[derive(Drop)]
+#[derive(Clone, Copy)]
 pub enum Storing {
     Create,
     Open,

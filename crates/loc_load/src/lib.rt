@@ -5,7 +5,7 @@ pub mod listing;
 pub mod xorshift;
 
 // A refusal or 0, and the seed and the number of records that are asked for; both are 0 on a refusal.
-#[derive(Drop)]
+#[derive(Clone, Copy)]
 pub struct Request {
     pub number: u64,
     pub seed: u64,

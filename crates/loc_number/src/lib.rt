@@ -4,7 +4,7 @@ ghost use Rattle.std.specs.Prelude.{◌≡◌, ◌+◌, ◌-◌, ◌*◌, ◌≤
 ghost use Rattle.loc_number.specs.Decimal.{goes_on, digits_on, number_at, Told};
 
 // What stands at a place: a number, and the place after the byte that ends it.
-#[derive(Drop)]
+#[derive(Clone, Copy)]
 pub enum Number {
     Known(u64, usize),
     Malformed,

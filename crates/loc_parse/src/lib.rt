@@ -4,7 +4,7 @@ pub mod form;
 pub mod lines;
 
 // The six numbers of a line.
-#[derive(Drop)]
+#[derive(Clone, Copy)]
 pub struct Fields {
     pub number: u64,
     pub start: u64,
@@ -15,14 +15,14 @@ pub struct Fields {
 }
 
 // What stands at a place: a line, and the place after its line feed.
-#[derive(Drop)]
+#[derive(Clone, Copy)]
 pub enum Line {
     Whole(Fields, usize),
     Broken,
 }
 
 // A refusal or 0, and how many records stand in the lists.
-#[derive(Drop)]
+#[derive(Clone, Copy)]
 pub struct Taken {
     pub number: u64,
     pub n: usize,

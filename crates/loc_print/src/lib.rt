@@ -5,7 +5,7 @@ pub mod listing;
 mod window;
 
 // What was put of a window: its lines and 0, or the line of the refusal and its number.
-#[derive(Drop)]
+#[derive(Clone, Copy)]
 struct Part {
     number: u64,
     bytes: usize,

@@ -6,7 +6,7 @@ pub mod delta_loc;
 use loc_leaf::Answer;
 
 // What the calls that finished replied; the reading's words are in the answer buffer.
-#[derive(Drop)]
+#[derive(Clone, Copy)]
 pub struct Replies {
     pub appended: Answer,
     pub opened: Answer,

@@ -8,7 +8,7 @@ use loc_leaf::{Answer, Kind};
 use loc_lent::parts::{part, part_words, plus};
 
 // The place on the tape, the kind (0 paired), the areas' sizes, and what was compared.
-#[derive(Drop)]
+#[derive(Clone, Copy)]
 pub struct State {
     pub at: usize,
     pub kind: u8,

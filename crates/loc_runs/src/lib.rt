@@ -3,7 +3,7 @@
 pub mod runs;
 
 // Keys up to `end` whose numbers lie in one window, and how many of its records they look at.
-#[derive(Drop)]
+#[derive(Clone, Copy)]
 pub struct Run {
     pub end: usize,
     pub m: usize,

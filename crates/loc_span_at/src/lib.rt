@@ -4,7 +4,7 @@ pub mod find;
 pub mod windows;
 
 // Records among which a span of a window is looked for: m that follow `base`, with `row` rows and `before` of the window's spans passed.
-#[derive(Drop)]
+#[derive(Clone, Copy)]
 pub struct Part {
     pub base: u64,
     pub m: usize,
@@ -13,7 +13,7 @@ pub struct Part {
 }
 
 // A record, and the index of a span in it.
-#[derive(Drop)]
+#[derive(Clone, Copy)]
 pub struct Span {
     pub record: u64,
     pub index: u64,

@@ -10,7 +10,7 @@ pub mod truncate;
 use loc_leaf::file::Pieces;
 
 // The published lengths of the three areas.
-#[derive(Drop)]
+#[derive(Clone, Copy)]
 pub struct Lengths {
     pub slots: u64,
     pub rows: u64,
@@ -18,7 +18,7 @@ pub struct Lengths {
 }
 
 // What the three areas publish, each in pieces of its own width.
-#[derive(Drop)]
+#[derive(Clone, Copy)]
 pub struct Published {
     pub slots: Pieces,
     pub rows: Pieces,
@@ -26,7 +26,7 @@ pub struct Published {
 }
 
 // What the check of a call finds: 1, 6 or 0; how many records and rows are published, and up to where.
-#[derive(Drop)]
+#[derive(Clone, Copy)]
 pub struct Checked {
     pub number: u64,
     pub count: u64,
@@ -35,7 +35,7 @@ pub struct Checked {
 }
 
 // The lengths of an opening's two truncations: by the checkpoint rule, then by the cut rule.
-#[derive(Drop)]
+#[derive(Clone, Copy)]
 pub struct Rules {
     pub checkpoint: Lengths,
     pub cut: Lengths,

@@ -6,7 +6,7 @@ pub mod window;
 pub mod words;
 
 // What some records add up to, and how many of them lack their row.
-#[derive(Drop)]
+#[derive(Clone, Copy)]
 pub struct Total {
     pub strides: u64,
     pub spans: u64,

@@ -8,7 +8,7 @@ pub mod rows;
 pub mod window;
 
 // A window that is read: m records are looked at after `base` others, and its rows stand from place `first` on and before place `past`.
-#[derive(Drop)]
+#[derive(Clone, Copy)]
 pub struct PlannedWindow {
     pub base: u64,
     pub m: usize,
@@ -17,7 +17,7 @@ pub struct PlannedWindow {
 }
 
 // What the records of so many blocks add up to, and how many rows are passed.
-#[derive(Drop)]
+#[derive(Clone, Copy)]
 pub struct Sums {
     pub strides: u64,
     pub spans: u64,
@@ -26,7 +26,7 @@ pub struct Sums {
 }
 
 // The sums after some records more, or that one of them lacks its row.
-#[derive(Drop)]
+#[derive(Clone, Copy)]
 pub enum Step {
     Next(Sums),
     Lack,
