@@ -1,5 +1,7 @@
 // One reader over the row area, carrying the next row's place: what opening and audit go through the rows with.
 // An inner crate. The width of a row is a number, so that both kinds are read by one code.
+#![tactic(auto)]
+
 ghost use Rattle.std.specs.Prelude.{◌≡◌, ◌+◌, ◌<◌, ◌≤◌, ◌^◌};
 ghost use Rattle.loc_leaf.specs.Rows.{row_list, ascending};
 ghost use Rattle.loc_rows.specs.Reader.{row_at, rows_from, is_end, is_above, number_of};
@@ -9,7 +11,7 @@ use loc_leaf::delta_loc::{ROW_SPANS, ROW_STRIDES, row_width};
 use loc_leaf::file::{FILE_HEADER_LEN, logical_len, u32_at, u64_at};
 
 // What stands at a place: a row, or no whole one. A row of 12 bytes has no spans.
-#[derive(Drop)]
+#[derive(Clone, Copy)]
 pub enum Row {
     At {
         number: u64,
@@ -20,7 +22,7 @@ pub enum Row {
 }
 
 // The published rows and the place of the next one.
-#[derive(Drop)]
+#[derive(Clone, Copy)]
 pub struct RowReader<'a> {
     pub rows: &'a [u8],
     pub at: usize,
