@@ -1,5 +1,7 @@
 // Create, open, truncate and the check of number 6 on three lent areas, for both kinds.
 // An inner crate: its calls ask nothing, but functions below them may have a `requires`.
+#![tactic(auto)]
+
 pub mod check;
 pub mod create;
 pub mod open;
