@@ -1,5 +1,7 @@
 // A batch's records: their refusals, and the bytes that they stage.
 // An inner crate: some functions have a `requires`, which their callers prove.
+#![tactic(auto)]
+
 pub mod batch;
 pub mod entry;
 pub mod staging;
