@@ -1,5 +1,7 @@
 // How many records are durable where the row area has reached the medium up to a length, for both kinds.
 // An inner crate: its call asks nothing, but the function below it has a `requires`.
+#![tactic(auto)]
+
 ghost use Rattle.std.specs.Prelude.{◌≡◌, ◌≤◌, length};
 ghost use Rattle.loc_calls.specs.Areas.{areas};
 ghost use Rattle.loc_calls.specs.Withheld.{limited, withheld};
