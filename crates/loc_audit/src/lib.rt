@@ -1,5 +1,7 @@
 // Audit: whether an index is sound, for both kinds.
 // An inner crate: its call asks nothing, but functions below it may have a `requires`.
+#![tactic(auto)]
+
 pub mod audit;
 pub mod pass;
 
