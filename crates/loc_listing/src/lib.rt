@@ -1,5 +1,7 @@
 // The text of a listing, put into a buffer that the caller lends.
 // Where a buffer is too short nothing is put, and the answer is 0.
+#![tactic(auto)]
+
 pub mod names;
 
 ghost use Rattle.std.specs.Prelude.{[], ◌∷◌, ◌++◌, ◌+◌, ◌*◌, ◌^◌, ◌≤◌, ◌<◌, ◌≡◌, length};
