@@ -1,6 +1,6 @@
 -- A decimal number in bytes, ended by one byte: no zero in front of it, and at most `most` (document 02, Item 1).
 -- The bytes 48 to 57 are the digits; `0` alone is a number.
-use Rattle.std.specs.Prelude.{ℕ, zero, ◌+◌, ◌-◌, ◌*◌, ◌≡◌, Bool, cond, not, ◌&&◌, List, [], ◌∷◌, leb, eqb, drop}
+use Rattle.std.specs.Prelude.{ℕ, ◌+◌, ◌-◌, ◌*◌, ◌≡◌, Bool, cond, not, ◌&&◌, List, [], ◌∷◌, leb, eqb, drop}
 use Rattle.loc_number.specs.declared.Number.{Number}
 use Rattle.loc_number.specs.declared.Number.TheVariants.{Known, Malformed}
 

@@ -1,5 +1,7 @@
 // Decimal numbers read from bytes: no zero in front, within a limit, ended by a given byte.
 // Every function is total; what is not of that form is `Malformed`.
+#![tactic(auto)]
+
 ghost use Rattle.std.specs.Prelude.{◌≡◌, ◌+◌, ◌-◌, ◌*◌, ◌≤◌, drop};
 ghost use Rattle.loc_number.specs.Decimal.{goes_on, digits_on, number_at, Told};
 
