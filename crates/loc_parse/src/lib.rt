@@ -1,5 +1,7 @@
 // A listing read back: the six numbers of its lines, their refusals, and the four lists of a batch.
 // Any bytes are read. An inner crate: what fills the lists requires room for 1,024 records.
+#![tactic(auto)]
+
 pub mod form;
 pub mod lines;
 
