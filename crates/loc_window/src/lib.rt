@@ -1,5 +1,7 @@
 // The sums of one window: its slots in a copy, its records' strides and spans added up from the window's begin.
 // This crate is inner: its callers prove what it requires.
+#![tactic(auto)]
+
 pub mod blocks;
 pub mod checkpoint;
 pub mod plan;
