@@ -1,4 +1,6 @@
 // The words of an answer: put at the places of wanted numbers, then copied to the caller's buffer.
 // This crate is inner: its callers prove what it requires.
+#![tactic(auto)]
+
 pub mod put;
 pub mod words;
