@@ -1,5 +1,7 @@
 // What the programs print of files and inputs of every sort: the name of each, then its text.
 // The files are in data/, what is printed in stdout; docs/face_data.py writes both.
+#![tactic(auto)]
+
 use libc::STDOUT_FILENO;
 
 fn heading(name: &[u8]) {

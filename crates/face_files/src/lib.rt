@@ -1,5 +1,7 @@
 // The listing of a face: its three files read, opened in memory and printed, for the programs face_list and face_cases.
 // A missing file counts as empty; bytes past 16,384 are not read.
+#![tactic(auto)]
+
 use files::load;
 use libc::STDOUT_FILENO;
 use loc_print::calls::open_text;

@@ -1,5 +1,7 @@
 // Two records of document 01 and two with rows, to the largest strides and span count.
 // The input is in stdin, what is printed in stdout.
+#![tactic(auto)]
+
 fn main() {
     face_input::import_face();
 }

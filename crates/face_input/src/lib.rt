@@ -1,5 +1,7 @@
 // A listing appended to a fresh index, and the listing of that index, for the programs face_import and face_cases.
 // Of the input 129,078 bytes are read: no listing is longer than 129,077, and longer input is refused by its first bytes as the whole is.
+#![tactic(auto)]
+
 use libc::{STDIN_FILENO, STDOUT_FILENO};
 use loc_print::calls::import_text;
 

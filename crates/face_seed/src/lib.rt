@@ -1,5 +1,7 @@
 // A seed and a number of records, and the listing of that load, for the programs face_load and face_cases.
 // Of the input 43 bytes are read: two right lines have at most 42, and longer input is refused by its first bytes as the whole is.
+#![tactic(auto)]
+
 use libc::{STDIN_FILENO, STDOUT_FILENO};
 use loc_load::listing::load_text;
 

@@ -1,16 +1,41 @@
 // Files as the programs read them: the first bytes, as many as a buffer holds.
-// A missing file counts as empty.
-ghost use Rattle.io.specs.Counts.{IsPrefixLen};
+// A missing file counts as empty, and so does one whose name is no UTF-8 text. A read that fails ends what is read.
+#![tactic(auto)]
 
-// The answer is how many bytes were read.
-pub fn load(path: &[u8], out: &mut [u8]) -> usize
+ghost use Rattle.files.specs.Counts.{IsPrefixLen};
+
+use std::io::Read;
+use std::rt::Files;
+use std::{fs, str};
+
+// None where the file is missing.
+pub fn open<R: Files>(rt: &R, path: &[u8]) -> Option<R::File> {
+    match str::from_utf8(path) {
+        Ok(name) => fs::open(rt, name).ok(),
+        Err(_) => None,
+    }
+}
+
+// The answer is how many bytes were read: all that the buffer holds, or fewer where the input ends or a read fails.
+pub fn read_full<R: Read>(input: &mut R, out: &mut [u8]) -> usize
     ensures { IsPrefixLen result out.new }
 {
-    let file = os::open_read(path);
-    if file < 0 {
-        return 0;
+    let mut done = 0;
+    while done < out.len() {
+        match input.read(&mut out[done..]) {
+            Ok(n) if 0 < n => done += n,
+            _ => break,
+        }
     }
-    let n = io::read_full(file, out);
-    libc::close(file);
-    n
+    done
+}
+
+// The answer is how many bytes were read.
+pub fn load<R: Files>(rt: &R, path: &[u8], out: &mut [u8]) -> usize
+    ensures { IsPrefixLen result out.new }
+{
+    match open(rt, path) {
+        Some(mut file) => read_full(&mut file, out),
+        None => 0,
+    }
 }

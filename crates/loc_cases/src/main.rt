@@ -1,5 +1,7 @@
 // Runs the public calls of both kinds as the script on standard input says, and prints a line for each case.
 // What it must print, the file stdout, is worked out from document 01.
+#![tactic(auto)]
+
 mod areas;
 mod batch;
 mod call;

@@ -1,5 +1,7 @@
 // Replays a sample of the original's answers, the file `answers`, which compare/sample.sh writes with the original itself, and prints how many differ.
 // What the original does not have, audits and append's 17, 23 and 24, is worked out there from its readings.
+#![tactic(auto)]
+
 mod batch;
 mod bytes;
 mod call;
