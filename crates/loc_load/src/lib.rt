@@ -1,5 +1,7 @@
 // A load that others can regenerate: the records that a seed draws, and their listing.
 // The seed and the number of records come as text, any bytes; every public function is total.
+#![tactic(auto)]
+
 pub mod input;
 pub mod listing;
 pub mod xorshift;
