@@ -1,5 +1,7 @@
 // What the last records of a list add up to: all bytes of their slots by words, then rows in place of bytes.
 // An inner crate: its callers prove what its functions require.
+#![tactic(auto)]
+
 pub mod rows;
 pub mod slots;
 pub mod window;
