@@ -1,5 +1,7 @@
 // Composites after their parts: the records that a record needs, by pairs of composite and component.
 // An inner crate: `parts` asks nothing, but functions below it have a `requires`.
+#![tactic(auto)]
+
 pub mod call;
 pub mod check;
 pub mod pass;
