@@ -1,5 +1,7 @@
 // Append: what it decides before it stores, its four places, and the call.
 // An inner crate: some functions have a `requires`, which their callers prove.
+#![tactic(auto)]
+
 pub mod append;
 pub mod plan;
 pub mod run;
