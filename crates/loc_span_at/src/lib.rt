@@ -1,5 +1,7 @@
 // Whose crossing is at an address: quarters of windows are passed by their totals, and the one that holds the address is halved.
 // An inner crate: `span_at` asks nothing, but functions below it have a `requires`.
+#![tactic(auto)]
+
 pub mod find;
 pub mod windows;
 
