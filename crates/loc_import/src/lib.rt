@@ -1,5 +1,7 @@
 // A listing appended to a paired index: its text is read once, and what it says is appended as one batch.
 // An inner crate; the call itself asks nothing of its caller.
+#![tactic(auto)]
+
 ghost use Rattle.loc_calls.specs.Areas.{areas};
 ghost use Rattle.loc_calls.specs.Promises.{Stored};
 ghost use Rattle.loc_parse.specs.Import.{append_listing};
