@@ -12,4 +12,4 @@ returns-then-n-lt10 t c =
 
 pub returns : goal.returns
 returns t c =
-    (digits_more _ _ _ _ c.if-most-eq0.false c.if-n-lt10.false _ _ c.put_digits-next.ensures.0, omega arith)
+    (digits_more _ _ _ _ c.if-most-eq0.false (omega arith) _ _ c.put_digits-next.ensures.0, omega arith)

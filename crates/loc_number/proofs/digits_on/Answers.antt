@@ -22,12 +22,12 @@ overflow_add-w c = omega (arith, within _ _ _ _ c.goes_on.ensures c.if-goes_on.t
 
 pub loop-i-preserved : goal.loop-i-preserved
 loop-i-preserved c = (
-  c.loop-i.invariant.0 ∙ on_digit _ _ _ _ _ c.loop-i-test.true c.if-b-end.false c.if-w-eq0.false _ c.goes_on.ensures c.if-goes_on.true _ c.digit.ensures,
+  c.loop-i.invariant.0 ∙ on_digit _ _ _ _ _ c.loop-i-test.true c.if-b-end.false (λ e. omega arith) _ c.goes_on.ensures c.if-goes_on.true _ c.digit.ensures,
   within _ _ _ _ c.goes_on.ensures c.if-goes_on.true _ c.digit.ensures,
 )
 
 pub returns-else-goes_on : goal.returns-else-goes_on
-returns-else-goes_on c = sym (c.loop-i.invariant.0 ∙ on_other _ _ _ _ _ c.loop-i-test.true c.if-b-end.false c.if-w-eq0.false _ c.goes_on.ensures c.if-goes_on.false)
+returns-else-goes_on c = sym (c.loop-i.invariant.0 ∙ on_other _ _ _ _ _ c.loop-i-test.true c.if-b-end.false (λ e. omega arith) _ c.goes_on.ensures c.if-goes_on.false)
 
 pub returns : goal.returns
 returns c = sym (c.loop-i.invariant.0 ∙ on_past _ _ _ _ _ c.loop-i-test.false)

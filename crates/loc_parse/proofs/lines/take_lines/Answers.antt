@@ -15,14 +15,14 @@ returns-then-i-eq1024 c = record { same = turn_over _ _ _ _ _ _ _ _ _ c.loop-at.
 
 pub returns-then-number-ne-ACCEPTED : goal.returns-then-number-ne-ACCEPTED
 returns-then-number-ne-ACCEPTED c =
-    record { same = turn_refused _ _ _ _ _ _ _ _ _ c.loop-at.invariant.0 c.loop-at-test.true c.loop-at.invariant.1 c.if-i-eq1024.false _ (is_line_told _ _ c.line_at-line.ensures) _ _ c.in-Whole.is _ c.fields_refusal-number.ensures c.if-number-ne-ACCEPTED.true; few = c.loop-at.invariant.1 }
+    record { same = turn_refused _ _ _ _ _ _ _ _ _ c.loop-at.invariant.0 c.loop-at-test.true c.loop-at.invariant.1 (λ e. omega arith) _ (is_line_told _ _ c.line_at-line.ensures) _ _ c.in-Whole.is _ c.fields_refusal-number.ensures c.if-number-ne-ACCEPTED.true; few = c.loop-at.invariant.1 }
 
 pub loop-at-preserved : goal.loop-at-preserved
 loop-at-preserved c =
-    (turn_more _ _ _ _ _ _ _ _ _ c.loop-at.invariant.0 c.loop-at-test.true c.loop-at.invariant.1 c.if-i-eq1024.false _ (is_line_told _ _ c.line_at-line.ensures) _ _ c.in-Whole.is _ c.fields_refusal-number.ensures c.if-number-ne-ACCEPTED.false c.loop-at.invariant.2, omega arith, room_kept _ _ _ _ _ _ _ _ _ c.loop-at.invariant.2, simp length-set c.loop-at.invariant.3, simp length-set c.loop-at.invariant.4, simp length-set c.loop-at.invariant.5, simp length-set c.loop-at.invariant.6)
+    (turn_more _ _ _ _ _ _ _ _ _ c.loop-at.invariant.0 c.loop-at-test.true c.loop-at.invariant.1 (λ e. omega arith) _ (is_line_told _ _ c.line_at-line.ensures) _ _ c.in-Whole.is _ c.fields_refusal-number.ensures c.if-number-ne-ACCEPTED.false c.loop-at.invariant.2, omega arith, room_kept _ _ _ _ _ _ _ _ _ c.loop-at.invariant.2, simp length-set c.loop-at.invariant.3, simp length-set c.loop-at.invariant.4, simp length-set c.loop-at.invariant.5, simp length-set c.loop-at.invariant.6)
 
 pub returns-in-Broken : goal.returns-in-Broken
-returns-in-Broken c = record { same = turn_broken _ _ _ _ _ _ _ _ _ c.loop-at.invariant.0 c.loop-at-test.true c.loop-at.invariant.1 c.if-i-eq1024.false _ (is_line_told _ _ c.line_at-line.ensures) c.in-Broken.is; few = c.loop-at.invariant.1 }
+returns-in-Broken c = record { same = turn_broken _ _ _ _ _ _ _ _ _ c.loop-at.invariant.0 c.loop-at-test.true c.loop-at.invariant.1 (λ e. omega arith) _ (is_line_told _ _ c.line_at-line.ensures) c.in-Broken.is; few = c.loop-at.invariant.1 }
 
 pub returns : goal.returns
 returns c = record { same = turn_end _ _ _ _ _ _ _ _ _ c.loop-at.invariant.0 c.loop-at-test.false; few = c.loop-at.invariant.1 }
