@@ -2,6 +2,8 @@
 // The input is in stdin, what is printed in stdout.
 #![tactic(auto)]
 
-fn main() {
-    face_input::import_face();
+use std::io;
+
+fn main(rt: HostRuntime) -> io::Result<()> {
+    face_input::import_face(&rt)
 }

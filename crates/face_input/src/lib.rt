@@ -2,38 +2,42 @@
 // Of the input 129,078 bytes are read: no listing is longer than 129,077, and longer input is refused by its first bytes as the whole is.
 #![tactic(auto)]
 
-use libc::{STDIN_FILENO, STDOUT_FILENO};
+use files::read_full;
 use loc_print::calls::import_text;
+use std::io;
+use std::io::Read;
 
-fn print_text(
+fn print_text<P: Print>(
+    rt: &P,
     input: &[u8],
     slots: &mut [u8],
     rows: &mut [u8],
     checkpoints: &mut [u8],
     out: &mut [u8],
-) {
+) -> io::Result<()> {
     let n = import_text(input, slots, rows, checkpoints, out);
-    io::write_all(STDOUT_FILENO, &out[..n]);
+    rt.write_all(&out[..n])
 }
 
 // Room for 1,024 records, each with a row, and for the longest listing of them: 53 + 1,024 × 126 bytes.
-pub fn import_from(file: i32) {
+pub fn import_from<P: Print, R: Read>(rt: &P, file: &mut R) -> io::Result<()> {
     let mut input = [0u8; 129078];
     let mut slots = [0u8; 2064];
     let mut rows = [0u8; 16400];
     let mut checkpoints = [0u8; 32];
     let mut text = [0u8; 129077];
-    let n = io::read_full(file, &mut input);
+    let n = read_full(file, &mut input);
     print_text(
+        rt,
         &input[..n],
         &mut slots,
         &mut rows,
         &mut checkpoints,
         &mut text,
-    );
+    )
 }
 
 // The listing from standard input.
-pub fn import_face() {
-    import_from(STDIN_FILENO);
+pub fn import_face<R: Input + Print>(rt: &R) -> io::Result<()> {
+    import_from(rt, &mut rt.reader())
 }

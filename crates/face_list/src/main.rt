@@ -2,6 +2,8 @@
 // The files are in data/, what is printed in stdout.
 #![tactic(auto)]
 
-fn main() {
-    face_files::list_face();
+use std::io;
+
+fn main(rt: HostRuntime) -> io::Result<()> {
+    face_files::list_face(&rt)
 }

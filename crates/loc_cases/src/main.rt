@@ -11,10 +11,11 @@ mod pairs;
 mod print;
 mod script;
 
-use libc::STDIN_FILENO;
+use files::read_full;
+use std::io;
 
-fn main() {
+fn main(rt: HostRuntime) -> io::Result<()> {
     let mut text = [0u8; 32768];
-    let n = io::read_full(STDIN_FILENO, &mut text);
-    cases::run(&text[..n]);
+    let n = read_full(&mut rt.reader(), &mut text);
+    cases::run(&rt, &text[..n])
 }

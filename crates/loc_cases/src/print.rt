@@ -1,66 +1,66 @@
 // A line on standard output: the kind, words of the script, numbers.
 // Fields are parted by a space.
-use libc::STDOUT_FILENO;
 use loc_leaf::{Answer, Kind};
+use std::io;
 
-pub fn text(bytes: &[u8]) {
-    io::write_all(STDOUT_FILENO, bytes);
+pub fn text<P: Print>(rt: &P, bytes: &[u8]) -> io::Result<()> {
+    rt.write_all(bytes)
 }
 
 // A part of the script, with the space before its words.
-pub fn words(script: &[u8], from: usize, to: usize) {
+pub fn words<P: Print>(rt: &P, script: &[u8], from: usize, to: usize) -> io::Result<()> {
     if to < from {
-        return;
+        return Ok(());
     }
     if script.len() < to {
-        return;
+        return Ok(());
     }
-    text(&script[from..to]);
+    text(rt, &script[from..to])
 }
 
-pub fn first_number(n: u64) {
-    io::print_decimal(STDOUT_FILENO, n);
+pub fn first_number<P: Print>(rt: &P, n: u64) -> io::Result<()> {
+    print!(rt; "{n}")
 }
 
-pub fn number(n: u64) {
-    text(b" ");
-    first_number(n);
+pub fn number<P: Print>(rt: &P, n: u64) -> io::Result<()> {
+    text(rt, b" ")?;
+    first_number(rt, n)
 }
 
-pub fn end() {
-    text(b"\n");
+pub fn end<P: Print>(rt: &P) -> io::Result<()> {
+    text(rt, b"\n")
 }
 
 // The first word of a case.
-pub fn kind(k: Kind) {
+pub fn kind<P: Print>(rt: &P, k: Kind) -> io::Result<()> {
     match k {
-        Kind::Paired => text(b"paired"),
-        Kind::Single => text(b"single"),
+        Kind::Paired => text(rt, b"paired"),
+        Kind::Single => text(rt, b"single"),
     }
 }
 
-pub fn answer(a: Answer) {
-    number(a.number);
-    number(a.value);
+pub fn answer<P: Print>(rt: &P, a: Answer) -> io::Result<()> {
+    number(rt, a.number)?;
+    number(rt, a.value)
 }
 
 // Whether all that was lent stayed as it was.
-pub fn kept(same: bool) {
+pub fn kept<P: Print>(rt: &P, same: bool) -> io::Result<()> {
     if same {
-        text(b" same");
-        return;
+        return text(rt, b" same");
     }
-    text(b" changed");
+    text(rt, b" changed")
 }
 
 // The words of an answer buffer from a place up to another.
-pub fn numbers(list: &[u64; 32], from: usize, to: usize) {
+pub fn numbers<P: Print>(rt: &P, list: &[u64; 32], from: usize, to: usize) -> io::Result<()> {
     let mut i = from;
     while i < to {
         if 32 <= i {
-            return;
+            return Ok(());
         }
-        number(list[i]);
+        number(rt, list[i])?;
         i += 1;
     }
+    Ok(())
 }

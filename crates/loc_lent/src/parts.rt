@@ -1,7 +1,6 @@
 // First parts of arrays, as calls are lent them. A part that would be longer than the array is the array.
 // `plus` gives places in arrays and texts, which are far below its limit.
-ghost use Rattle.std.specs.Prelude.{◌≡◌, min};
-ghost use Rattle.io.specs.Counts.{IsPrefixLen};
+ghost use Rattle.std.specs.Prelude.{◌≡◌, ◌≤◌, min, length, take};
 
 pub fn plus(a: usize, b: usize) -> usize {
     if a < 0x100_0000 {
@@ -19,19 +18,22 @@ fn least(a: usize, b: usize) -> usize
 }
 
 fn fitting(n: usize, bytes: &[u8]) -> usize
-    ensures { IsPrefixLen result bytes.now }
+    ensures in_bounds { result ≤ length bytes.now }
+    ensures part_len { result ≡ length (take result bytes.now) }
 {
     least(n, bytes.len())
 }
 
 fn fitting_words(n: usize, list: &[u64]) -> usize
-    ensures { IsPrefixLen result list.now }
+    ensures in_bounds { result ≤ length list.now }
+    ensures part_len { result ≡ length (take result list.now) }
 {
     least(n, list.len())
 }
 
 fn fitting_counts(n: usize, list: &[u32]) -> usize
-    ensures { IsPrefixLen result list.now }
+    ensures in_bounds { result ≤ length list.now }
+    ensures part_len { result ≡ length (take result list.now) }
 {
     least(n, list.len())
 }

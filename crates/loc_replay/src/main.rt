@@ -10,17 +10,16 @@ mod tape;
 
 use crate::tape::State;
 use files::load;
-use libc::STDOUT_FILENO;
+use std::io;
 
-fn print_end(end: State) {
-    io::print_decimal(STDOUT_FILENO, end.answers);
-    io::write_all(STDOUT_FILENO, b" answers of the original replayed, ");
-    io::print_decimal(STDOUT_FILENO, end.differ);
-    io::write_all(STDOUT_FILENO, b" differ\n");
+fn print_end<P: Print>(rt: &P, end: State) -> io::Result<()> {
+    let answers = end.answers;
+    let differ = end.differ;
+    println!(rt; "{answers} answers of the original replayed, {differ} differ")
 }
 
-fn main() {
+fn main(rt: HostRuntime) -> io::Result<()> {
     let mut data = [0u8; 200000];
-    let n = load(b"answers", &mut data);
-    print_end(tape::replay(&data[..n]));
+    let n = load(&rt, b"answers", &mut data);
+    print_end(&rt, tape::replay(&data[..n]))
 }
