@@ -1,5 +1,7 @@
 // Code and book in one statement: a history run by the public calls, whose replies are promised to be the book's.
 // The history: a creation, an append, a second append torn at some place, an opening, a reading.
+#![tactic(auto)]
+
 pub mod create_loc;
 pub mod delta_loc;
 
