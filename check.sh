@@ -5,21 +5,29 @@
 set -eu
 cd "$(dirname "$0")"
 
-sh docs/check.sh
-rt fmt --check
+failed=0
+sh docs/check.sh || failed=1
 
-# rt's output is kept outside target/, which it removes
 kept=$(mktemp -d)
 trap 'rm -rf "$kept"' EXIT
 { rt ci 2>&1 && echo 0 >"$kept/rt" || echo 1 >"$kept/rt"; } | tee "$kept/output"
-failed=$(cat "$kept/rt")
+proved=$(cat "$kept/rt")
+[ "$proved" -eq 0 ] || failed=1
+
+# an edit that cannot be tried fails nothing in rt ci, and is told on its line 'rt: ok': here it fails
+if grep '^rt: ok' "$kept/output" | grep -qE ', [1-9][0-9]* bad'; then
+    echo "must-fail edits that say nothing, see above: mend them"
+    failed=1
+fi
 
 # then what runs on the crates that it has proved
 left=
-if [ "$failed" -ne 0 ]; then
+if [ "$proved" -ne 0 ]; then
     left="the header's example and the comparison with the original were not run: the check of the crates failed"
+elif ! sh compare/archive.sh; then
+    failed=1
+    left="the header's example and the comparison with the original were not run: the archive of the exported calls was not made"
 else
-    sh compare/archive.sh || failed=1
     if command -v cc >/dev/null 2>&1 && command -v c++ >/dev/null 2>&1; then
         sh compare/linking/run.sh || failed=1
     else

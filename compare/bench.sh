@@ -12,9 +12,9 @@ if [ "${1:-}" != --document ]; then
     exec compare/target/release/bench "$@"
 fi
 shift
-compare/target/release/bench "$@" >target/bench.md
-sed '/^## Result$/,$d' docs/PERFORMANCE.md >target/performance.md
-cat target/bench.md >>target/performance.md
-echo >>target/performance.md
-sed -n '/^## What each change did$/,$p' docs/PERFORMANCE.md >>target/performance.md
-mv target/performance.md docs/PERFORMANCE.md
+compare/target/release/bench "$@" >compare/target/bench.md
+sed '/^## Result$/,$d' docs/PERFORMANCE.md >compare/target/performance.md
+cat compare/target/bench.md >>compare/target/performance.md
+echo >>compare/target/performance.md
+sed -n '/^## What each change did$/,$p' docs/PERFORMANCE.md >>compare/target/performance.md
+mv compare/target/performance.md docs/PERFORMANCE.md

@@ -4,12 +4,17 @@
 set -eu
 cd "$(dirname "$0")/.."
 sh compare/archive.sh
-program=target/bin/face_load
-if [ ! -f "$program" ] || [ -n "$(find crates crates.txt -newer "$program" -type f | head -n 1)" ]; then
-    rt check face_load >target/face_load.log 2>&1 || {
-        cat target/face_load.log
+program=crates/face_load/out/face_load
+if [ ! -f "$program" ] || [ -n "$(find crates crates.txt -name out -prune -o -type f -newer "$program" -print | head -n 1)" ]; then
+    log=$(mktemp)
+    trap 'rm -f "$log"' EXIT
+    # proves and links it, and runs its sample once
+    (cd crates/face_load && rt run <stdin) >"$log" 2>&1 || {
+        cat "$log"
         exit 1
     }
+    # rt leaves a program that is up to date as it is
+    touch "$program"
 fi
 for binary; do
     set -- "$@" --bin "$binary"

@@ -1,4 +1,4 @@
-/* The exported calls (crate loc_exports, built by `rt staticlib loc_exports`), for C and C++.
+/* The exported calls (crate loc_exports; its archive is made by `rt lib` in its folder), for C and C++.
  * create_loc is the paired index (body and spans), delta_loc the single one (body alone).
  *
  * A slice is a pointer and a length in elements; NULL is allowed with length 0. What one call is lent (areas, lists, `answers`,

@@ -11,7 +11,7 @@ use std::io::Write;
 use std::process::{Command, Stdio};
 
 /// Seen from the repository's root.
-pub const PROGRAM: &str = "target/bin/face_load";
+pub const PROGRAM: &str = "crates/face_load/out/face_load";
 
 /// What an input asks for: the load, or the number of its refusal.
 pub fn read(input: &[u8]) -> Result<Batch, u64> {
