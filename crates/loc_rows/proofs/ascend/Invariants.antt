@@ -11,7 +11,7 @@ abbrev pub invariant-loop-last : goal.invariant-loop-last
 invariant-loop-last l = record {
   lent : l.r.rows.now ≡ l.rows;
   found : l.row ≡ row_at l.width l.rows l.r.at;
-  decides : ascending 0 (rows_from l.width l.rows l.from) ≡ ascending l.last (rows_from l.width l.rows l.r.at)
+  decides : ascending 0 (rows_from l.width l.rows l.from) ≡ ascending l.last (rows_from l.width l.rows l.r.at);
 }
 
 abbrev pub decreases-loop-last : goal.decreases-loop-last
