@@ -7,9 +7,9 @@ use Rattle.loc_parts.proofs.call.put_with.Goals as goal
 pub returns-then-answers-n : goal.returns-then-answers-n
 returns-then-answers-n c =
     let n = c.needed_records-n in
-    put_short (needed c.args.composites.now c.args.components.now c.args.«record») _ c.args.answers.now _ n.ensures.1 (omega (arith, n.ensures.0, n.auto.list)) _ c.if-answers-n.true c.refused.ensures
+    put_short (needed c.args.composites.now c.args.components.now c.args.«record») _ c.args.answers.now n.result n.ensures.1 (omega (arith, n.ensures.0, n.auto.list)) _ (omega arith) c.refused.ensures
 
 pub returns : goal.returns
 returns c =
     let n = c.needed_records-n in
-    put_found (needed c.args.composites.now c.args.components.now c.args.«record») _ c.args.answers.now _ n.ensures.1 (omega (arith, n.ensures.0, n.auto.list)) _ c.if-answers-n.false _ c.copy_words.ensures c.accepted.ensures
+    put_found (needed c.args.composites.now c.args.components.now c.args.«record») _ c.args.answers.now n.result n.ensures.1 (omega (arith, n.ensures.0, n.auto.list)) _ (omega arith) _ c.copy_words.ensures c.accepted.ensures

@@ -3,7 +3,6 @@
 use mathlib.Core.Path.{refl, sym}
 use native.Mathlib.Omega.{arith}
 use lib.Seq.{length-take-le}
-use lib.ListN.{length}
 use borrow.Author.Rules.{rules}
 use Rattle.loc_window.proofs.CheckpointLaws.{width_low}
 use Rattle.loc_read.proofs.ReadLaws.{counted_readable, read_17, read_done, words_fit}
@@ -19,7 +18,7 @@ pub returns-then-number-ne-ACCEPTED : goal.returns-then-number-ne-ACCEPTED
 returns-then-number-ne-ACCEPTED c = read_17 _ _ _ _ _ c.requires.tested.0 _ _ c.finish_range_batch-number.ensures _ c.if-number-ne-ACCEPTED.true c.refused.ensures
 
 pub overflow_mul-word_width : goal.overflow_mul-word_width
-overflow_mul-word_width c = omega (arith, width_low c.word_width.result (length c.args.wanted.now) (omega (arith, c.word_width.ensures.1)), c.requires.tested.0.few)
+overflow_mul-word_width c = omega (arith, width_low)
 
 pub copy_words-requires : goal.copy_words-requires
 copy_words-requires c = (

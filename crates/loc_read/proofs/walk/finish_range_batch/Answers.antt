@@ -25,7 +25,7 @@ run_at-run-requires c =
 
 pub wanted_by-requires : goal.wanted_by-requires
 wanted_by-requires c =
-    (c.windows-test.true, key_there _ _ _ (ordered_keys _ _ _ c.requires.wanted_len_bound.0 c.requires.wanted_len_bound.1) _ c.windows-test.true)
+    (omega arith, key_there _ _ _ (ordered_keys _ _ _ c.requires.wanted_len_bound.0 c.requires.wanted_len_bound.1) _ (omega arith))
 
 pub overflow_mul-w : goal.overflow_mul-w
 overflow_mul-w c =

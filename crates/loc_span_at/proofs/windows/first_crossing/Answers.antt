@@ -23,8 +23,8 @@ find-found_span-requires c = (quarter_holding _ _ c.args.checkpoints.now _ _ _ _
 
 pub returns-then-spans_hold : goal.returns-then-spans_hold
 returns-then-spans_hold c =
-    found_next _ _ _ _ c.requires.found_value _ c.if-found-eq-ACCEPTED.false _ (held_there _ _ _ _ _ _ _ _ _ c.requires.quarter.0 (c.window_end-start.ensures _ _ (omega arith)) (search rules) (search rules) (hold_start _ _ _ _ (sym c.spans_hold.ensures ∙ c.if-spans_hold.true)) _ (c.find-found_span.ensures _))
+    found_next _ _ _ _ c.requires.found_value _ (λ e. omega arith) _ (held_there _ _ _ _ _ _ _ _ _ c.requires.quarter.0 (c.window_end-start.ensures _ _ (omega arith)) (search rules) (search rules) (hold_start _ _ _ _ (sym c.spans_hold.ensures ∙ c.if-spans_hold.true)) _ (c.find-found_span.ensures _))
 
 pub returns : goal.returns
 returns c =
-    found_next _ _ _ _ c.requires.found_value _ c.if-found-eq-ACCEPTED.false _ (found_21 _ _ _ _ c.requires.found_value c.if-found-eq-ACCEPTED.false ∙ none_there _ _ _ _ _ _ _ _ _ c.requires.quarter.0 (c.window_end-start.ensures _ _ (omega arith)) (search rules) (search rules) (found_none _ _ _ _ c.requires.found_value c.if-found-eq-ACCEPTED.false) (sym c.spans_hold.ensures ∙ c.if-spans_hold.false))
+    found_next _ _ _ _ c.requires.found_value _ (λ e. omega arith) _ (found_21 _ _ _ _ c.requires.found_value (λ e. omega arith) ∙ none_there _ _ _ _ _ _ _ _ _ c.requires.quarter.0 (c.window_end-start.ensures _ _ (omega arith)) (search rules) (search rules) (found_none _ _ _ _ c.requires.found_value (λ e. omega arith)) (sym c.spans_hold.ensures ∙ c.if-spans_hold.false))
