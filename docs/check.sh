@@ -58,8 +58,8 @@ asked=$(awk '/^[ ]*pub (extern "C" )?fn /{name=$0} /^[ ]*{/{name=""} /^[ ]*requi
     crates/loc_load/src/*.rt crates/loc_print/src/calls.rt crates/loc_print/src/listing.rt crates/loc_recovery/src/*.rt)
 [ -z "$asked" ] || wrong "a public function has a 'requires': $asked"
 
-folders=$(grep -rnE '/(work|opt|home|root|tmp)/[a-z]' --include='*.md' --include='*.rt' --include='*.antt' --include='*.sh' --include='*.edit' . |
-    grep -v -e '^./target/' -e '^./compare/target/' -e '^./docs/check.sh') || folders=
+folders=$(grep -rnE '/(work|opt|home|root|tmp)/[a-z]' --include='*.md' --include='*.rt' --include='*.antt' --include='*.sh' --include='*.edit' --exclude-dir=out --exclude-dir=target . |
+    grep -v -e '^./docs/check.sh') || folders=
 [ -z "$folders" ] || wrong "a folder of one machine is named: $folders"
 
 [ "$bad" -eq 0 ] || exit 1
