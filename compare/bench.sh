@@ -4,7 +4,7 @@
 #   sh compare/bench.sh --quick            a look, with fewer rounds
 #   sh compare/bench.sh reading storing    these tables only (reading, growth, storing, listing, load, span_at, parts, audit, durable, size, numbers)
 #   SHIFT=32 sh compare/bench.sh           with the archive's code moved so many bytes in the link: where its loops lie matters (docs/PERFORMANCE.md)
-#   sh compare/bench.sh --document         all tables, put into docs/PERFORMANCE.md from its section Result to its last section
+#   sh compare/bench.sh --document         all tables, put into docs/PERFORMANCE.md from its section Result to its last section; its first sentence, on the older kit, is then to be changed by hand
 set -eu
 cd "$(dirname "$0")/.."
 sh compare/build.sh bench load
