@@ -7,7 +7,7 @@ use Rattle.loc_span_at.proofs.WindowLaws.{hold_start, quarter_holding, none_ther
 use Rattle.loc_span_at.proofs.windows.first_crossing.Goals as goal
 
 pub returns-then-found-eq-ACCEPTED : goal.returns-then-found-eq-ACCEPTED
-returns-then-found-eq-ACCEPTED c = found_stays _ _ _ _ c.requires.found_value _ c.if-found-eq-ACCEPTED.true
+returns-then-found-eq-ACCEPTED c = found_stays _ _ _ _ c.requires.found_value _ (omega arith)
 
 pub window_end-start-requires : goal.window_end-start-requires
 window_end-start-requires c = (omega arith, omega (arith, c.requires.quarter.0.ready.low))
