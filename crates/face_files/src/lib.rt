@@ -3,30 +3,20 @@
 #![tactic(auto)]
 
 use files::load;
+use loc_calls::AreasMut;
 use loc_print::calls::open_text;
 use std::io;
 use std::rt::Files;
 
-fn print_text<R: Print>(
-    rt: &R,
-    slots: &mut [u8],
-    rows: &mut [u8],
-    checkpoints: &mut [u8],
-    text: &mut [u8],
-) -> io::Result<()> {
-    let n = open_text(slots, rows, checkpoints, text);
+fn print_text<R: Print>(rt: &R, areas: &mut AreasMut, text: &mut [u8]) -> io::Result<()> {
+    let n = open_text(areas, text);
     rt.write_all(&text[..n])
 }
 
 // The text's room as an array, whose length is in its type: 16,384 bytes hold 8,184 slots, whose listing has at most 53 + 126 × 8,184 bytes.
-fn print_face<R: Print>(
-    rt: &R,
-    slots: &mut [u8],
-    rows: &mut [u8],
-    checkpoints: &mut [u8],
-    text: &mut [u8; 1031237],
-) -> io::Result<()> {
-    print_text(rt, slots, rows, checkpoints, text)
+// Tried: made and lent in one function, the proof did not close (the check ran out of stack).
+fn print_face<R: Print>(rt: &R, areas: &mut AreasMut, text: &mut [u8; 1031237]) -> io::Result<()> {
+    print_text(rt, areas, text)
 }
 
 // The listing of the files at three paths.
@@ -43,13 +33,12 @@ pub fn list_files<R: Files + Print>(
     let a = load(rt, slot_path, &mut slots);
     let b = load(rt, row_path, &mut rows);
     let c = load(rt, checkpoint_path, &mut checkpoints);
-    print_face(
-        rt,
-        &mut slots[..a],
-        &mut rows[..b],
-        &mut checkpoints[..c],
-        &mut text,
-    )
+    let mut areas = AreasMut {
+        slots: &mut slots[..a],
+        rows: &mut rows[..b],
+        checkpoints: &mut checkpoints[..c],
+    };
+    print_face(rt, &mut areas, &mut text)
 }
 
 pub fn list_face<R: Files + Print>(rt: &R) -> io::Result<()> {

@@ -3,21 +3,10 @@
 #![tactic(auto)]
 
 use files::read_full;
+use loc_calls::AreasMut;
 use loc_print::calls::import_text;
 use std::io;
 use std::io::Read;
-
-fn print_text<P: Print>(
-    rt: &P,
-    input: &[u8],
-    slots: &mut [u8],
-    rows: &mut [u8],
-    checkpoints: &mut [u8],
-    out: &mut [u8],
-) -> io::Result<()> {
-    let n = import_text(input, slots, rows, checkpoints, out);
-    rt.write_all(&out[..n])
-}
 
 // Room for 1,024 records, each with a row, and for the longest listing of them: 53 + 1,024 × 126 bytes.
 pub fn import_from<P: Print, R: Read>(rt: &P, file: &mut R) -> io::Result<()> {
@@ -26,15 +15,14 @@ pub fn import_from<P: Print, R: Read>(rt: &P, file: &mut R) -> io::Result<()> {
     let mut rows = [0u8; 16400];
     let mut checkpoints = [0u8; 32];
     let mut text = [0u8; 129077];
-    let n = read_full(file, &mut input);
-    print_text(
-        rt,
-        &input[..n],
-        &mut slots,
-        &mut rows,
-        &mut checkpoints,
-        &mut text,
-    )
+    let read = read_full(file, &mut input);
+    let mut areas = AreasMut {
+        slots: &mut slots,
+        rows: &mut rows,
+        checkpoints: &mut checkpoints,
+    };
+    let n = import_text(&input[..read], &mut areas, &mut text);
+    rt.write_all(&text[..n])
 }
 
 // The listing from standard input.

@@ -6,7 +6,20 @@ ghost use Rattle.files.specs.Counts.{IsPrefixLen};
 
 use std::io::Read;
 use std::rt::Files;
-use std::{fs, str};
+use std::{fs, io, str};
+
+// What a file holds, to be read: None where it is missing.
+#[derive(Drop)]
+pub struct Contents<F>(Option<F>);
+
+impl<F: Read> Read for Contents<F> {
+    fn read(&mut self, buf: &mut [u8]) -> io::Result<usize> {
+        match &mut self.0 {
+            Some(file) => file.read(buf),
+            None => Ok(0),
+        }
+    }
+}
 
 // None where the file is missing.
 pub fn open<R: Files>(rt: &R, path: &[u8]) -> Option<R::File> {
@@ -16,11 +29,16 @@ pub fn open<R: Files>(rt: &R, path: &[u8]) -> Option<R::File> {
     }
 }
 
+pub fn opened<R: Files>(rt: &R, path: &[u8]) -> Contents<R::File> {
+    Contents(open(rt, path))
+}
+
 // The answer is how many bytes were read: all that the buffer holds, or fewer where the input ends or a read fails.
 pub fn read_full<R: Read>(input: &mut R, out: &mut [u8]) -> usize
     ensures { IsPrefixLen result out.new }
 {
     let mut done = 0;
+    // no count: a turn goes on by what a read gave
     while done < out.len() {
         match input.read(&mut out[done..]) {
             Ok(n) if 0 < n => done += n,
@@ -34,8 +52,5 @@ pub fn read_full<R: Read>(input: &mut R, out: &mut [u8]) -> usize
 pub fn load<R: Files>(rt: &R, path: &[u8], out: &mut [u8]) -> usize
     ensures { IsPrefixLen result out.new }
 {
-    match open(rt, path) {
-        Some(mut file) => read_full(&mut file, out),
-        None => 0,
-    }
+    read_full(&mut opened(rt, path), out)
 }

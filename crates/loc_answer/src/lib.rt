@@ -1,4 +1,4 @@
-// The words of an answer: put at the places of wanted numbers, then copied to the caller's buffer.
+// The words of an answer, put at the places of wanted numbers.
 // This crate is inner: its callers prove what it requires.
 #![tactic(auto)]
 

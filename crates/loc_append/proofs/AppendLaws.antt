@@ -1,87 +1,96 @@
 -- The places of an append, in the form in which the code meets them.
--- A part that was lent comes back as a store in the whole.
-use Prim.Native.Nat.{ℕ, zero, suc, ◌-◌, ◌≤◌, min}
-use mathlib.Core.Path.{◌≡◌, refl, sym}
-use mathlib.Core.List.{List, append-nil, flatten}
-use native.Mathlib.Nat.{add-zero}
+-- What each area has become is known by the test before its store.
+use Prim.Native.Nat.{ℕ, zero, suc, ◌≤◌, ◌<◌}
+use mathlib.Core.Path.{◌≡◌, refl, sym, ap, ◌∙◌}
+use mathlib.Core.Bool.{cond}
+use mathlib.Core.List.{List, [], flatten}
 use native.Mathlib.Omega.{arith}
-use lib.ListN.{length, take, drop, get_or, length-drop, drop_of_length-le}
-use borrow.Rule.Slice.PartMut.{put_mid}
+use lib.Dec.{ltb}
+use borrow.Author.Tests.{lt-ltb, le-ltb}
 use Rattle.loc_leaf.specs.declared.Kind.{Kind}
-use Rattle.loc_leaf.specs.Bytes.{Bytes, store}
-use Rattle.loc_leaf.specs.Area.{counted, store_past}
-use Rattle.loc_leaf.proofs.NumberLaws.{part_all}
+use Rattle.loc_leaf.specs.Bytes.{Bytes}
+use Rattle.loc_calls.specs.declared.AreasMut.{AreasMut}
 use Rattle.loc_calls.specs.Areas.{Areas, each, areas}
+use Rattle.loc_calls.specs.Lent.{held, SameLenders}
 use Rattle.loc_calls.specs.Table.{Entry}
-use Rattle.loc_calls.specs.Stores.{Place, keep, write, step, run, gather, slot_of, row_of, checkpoint_of, staged}
+use Rattle.loc_calls.specs.Stores.{write, step, run, staged}
 use Rattle.loc_store.specs.Plans.{fitted}
-use Rattle.loc_store.proofs.StoreLaws.{step_slots, step_rows, step_checkpoints, run_done}
-use Rattle.loc_batch.proofs.StageLaws.{store_tail}
-use Rattle.loc_batch.specs.Lists.{Room, Staged}
-use Rattle.loc_append.specs.Plans.{stage_places, RoomPast}
+use Rattle.loc_store.proofs.StoreLaws.{placed, step_slots, step_rows, step_checkpoints}
+use Rattle.loc_append.specs.Plans.{stage_places}
 use Rattle.loc_append.specs.declared.Stage.{Stage}
 
--- ---- a part that was lent
+-- the areas with the bytes past their ends
+abbrev pub written : Kind → List Entry → Stage → Areas → Areas
+written k es t a = step (write (each flatten (staged k t.base es))) a
 
--- what a writer says of the part from `end` on, said of the whole
-lent : (xs : Bytes) (end : ℕ) (vs ys : Bytes) → end ≡ counted xs → ys ≡ store 0 vs (take (length xs - end) (drop end xs)) → put_mid end (length xs - end) xs ys ≡ store_past vs xs
-unfolding store_past
-lent xs end vs ys e q =
-    let d : length (drop end xs) ≤ length xs - end = rw length-drop (omega arith) in
-    let p : ys ≡ store 0 vs (drop end xs) = rw (part_all end xs) at q in
-    rw (drop_of_length-le (drop end xs) d, append-nil, p, store_tail xs end 0 vs, add-zero, ← e) refl
+-- the areas b are a after a store, where its place is among the first s
+abbrev pub Wrote : Kind → List Entry → Stage → ℕ → AreasMut → AreasMut → Type 0
+Wrote k es t s a b = (held b ≡ cond (ltb 0 s) (written k es t (held a)) (held a)) × SameLenders a b
 
-module _ (k : Kind) (base : ℕ) (es : List Entry) (slots rows checkpoints : Bytes) (x y z : ℕ) (ex : x ≡ counted slots) (ey : y ≡ counted rows) (ez : z ≡ counted checkpoints) where
-  pub lent_room : (n : ℕ) → RoomPast k base n es (areas slots rows checkpoints)
-      → Room k base n es (length (take (length slots - x) (drop x slots))) (length (take (length rows - y) (drop y rows))) (length (take (length checkpoints - z) (drop z checkpoints)))
-  unfolding RoomPast
-  lent_room n r = rw (part_all x slots, part_all y rows, part_all z checkpoints, length-drop x slots, length-drop y rows, length-drop z checkpoints, ex, ey, ez) r
+abbrev pub SlotsPlaced : Stage → ℕ → AreasMut → AreasMut → Type 0
+SlotsPlaced t s a b = (held b ≡ areas (placed 1 s t.old.slots t.new.slots a.slots.now) a.rows.now a.checkpoints.now) × SameLenders a b
 
-  pub bytes_written : (a b c : Bytes) → Staged k base es (take (length slots - x) (drop x slots)) (take (length rows - y) (drop y rows)) (take (length checkpoints - z) (drop z checkpoints)) a b c
-      → areas (put_mid x (length slots - x) slots a) (put_mid y (length rows - y) rows b) (put_mid z (length checkpoints - z) checkpoints c)
-      ≡ step (write (each flatten (staged k base es))) (areas slots rows checkpoints)
-  unfolding step staged
-  bytes_written a b c s = rw (lent slots x (flatten (gather (slot_of k) base es)) a ex s.is_slots, lent rows y (flatten (gather (row_of k) base es)) b ey s.is_rows, lent checkpoints z (flatten (gather (checkpoint_of k) base es)) c ez s.is_checkpoints) refl
+abbrev pub RowsPlaced : Stage → ℕ → AreasMut → AreasMut → Type 0
+RowsPlaced t s a b = (held b ≡ areas a.slots.now (placed 2 s t.old.rows t.new.rows a.rows.now) a.checkpoints.now) × SameLenders a b
 
--- ---- the places
+module _ (k : Kind) (es : List Entry) (t : Stage) (s : ℕ) (a : Areas) where
+  pub wrote_in : 0 < s → written k es t a ≡ cond (ltb 0 s) (written k es t a) a
+  wrote_in h = rw (lt-ltb 0 s h) refl
 
-module _ (k : Kind) (es : List Entry) (t : Stage) (p : ℕ) (s r c : Bytes) where
-  pub place_bytes : (x y z : Bytes) → p ≡ 0 → areas x y z ≡ step (write (each flatten (staged k t.base es))) (areas s r c) → areas x y z ≡ step (get_or (stage_places k es t) p keep) (areas s r c)
-  unfolding stage_places
-  place_bytes x y z e q = rw e q
+  pub wrote_out : s ≤ 0 → a ≡ cond (ltb 0 s) (written k es t a) a
+  wrote_out h = rw (le-ltb 0 s h) refl
 
-  pub place_slots : (x : Bytes) → p ≡ 1 → x ≡ fitted t.old.slots t.new.slots s → areas x r c ≡ step (get_or (stage_places k es t) p keep) (areas s r c)
-  unfolding stage_places
-  place_slots x e q = rw (e, q) (sym (step_slots s r c t.old.slots t.new.slots))
+-- all four
+pub run_stage : (k : Kind) (es : List Entry) (t : Stage) (s : ℕ) (a b : Areas) → b ≡ cond (ltb 0 s) (written k es t a) a
+    → areas (placed 1 s t.old.slots t.new.slots b.slots) (placed 2 s t.old.rows t.new.rows b.rows) (placed 3 s t.old.checkpoints t.new.checkpoints b.checkpoints)
+    ≡ run s (stage_places k es t) a
+unfolding run stage_places
+run_stage k es t zero a b e = e
+run_stage k es t (suc zero) a b e = e
+run_stage k es t (suc (suc zero)) a b e = rw (← e) (sym (step_slots b.slots b.rows b.checkpoints t.old.slots t.new.slots))
+run_stage k es t (suc (suc (suc zero))) a b e =
+    rw (
+      ← e,
+      step_slots b.slots b.rows b.checkpoints t.old.slots t.new.slots,
+      step_rows (fitted t.old.slots t.new.slots b.slots) b.rows b.checkpoints t.old.rows t.new.rows,
+    ) refl
+run_stage k es t (suc (suc (suc (suc n)))) a b e =
+    rw (
+      lt-ltb 1 (suc (suc (suc (suc n)))) (omega arith),
+      lt-ltb 2 (suc (suc (suc (suc n)))) (omega arith),
+      lt-ltb 3 (suc (suc (suc (suc n)))) (omega arith),
+      run_none n,
+      ← e',
+      step_slots b.slots b.rows b.checkpoints t.old.slots t.new.slots,
+      step_rows (fitted t.old.slots t.new.slots b.slots) b.rows b.checkpoints t.old.rows t.new.rows,
+      step_checkpoints (fitted t.old.slots t.new.slots b.slots) (fitted t.old.rows t.new.rows b.rows) b.checkpoints t.old.checkpoints t.new.checkpoints,
+    ) refl
+  where
+    e' : b ≡ written k es t a
+    e' = rw (lt-ltb 0 (suc (suc (suc (suc n)))) (omega arith)) at e
 
-  pub place_rows : (x : Bytes) → p ≡ 2 → x ≡ fitted t.old.rows t.new.rows r → areas s x c ≡ step (get_or (stage_places k es t) p keep) (areas s r c)
-  unfolding stage_places
-  place_rows x e q = rw (e, q) (sym (step_rows s r c t.old.rows t.new.rows))
+    run_none : (m : ℕ) (x : Areas) → run m [] x ≡ x
+    run_none zero x = refl
+    run_none (suc m) x = refl
 
-  pub place_checkpoints : (x : Bytes) → p ≡ 3 → x ≡ fitted t.old.checkpoints t.new.checkpoints c → areas s r x ≡ step (get_or (stage_places k es t) p keep) (areas s r c)
-  unfolding stage_places
-  place_checkpoints x e q = rw (e, q) (sym (step_checkpoints s r c t.old.checkpoints t.new.checkpoints))
-
-  pub place_none : (p ≡ 0 → ⊥) → (p ≡ 1 → ⊥) → (p ≡ 2 → ⊥) → (p ≡ 3 → ⊥) → areas s r c ≡ step (get_or (stage_places k es t) p keep) (areas s r c)
-  unfolding stage_places step
-  place_none h₀ h₁ h₂ h₃ = go p h₀ h₁ h₂ h₃
+-- the areas that are left
+module _ (k : Kind) (es : List Entry) (t : Stage) (s : ℕ) (a b c d : AreasMut) (w : Wrote k es t s a b) (p : SlotsPlaced t s b c) (q : RowsPlaced t s c d) where
+  pub stores_ran : (x : Bytes) → x ≡ placed 3 s t.old.checkpoints t.new.checkpoints d.checkpoints.now
+      → (areas d.slots.now d.rows.now x ≡ run s (stage_places k es t) (held a)) × SameLenders a d
+  stores_ran x e = (
+    whole ∙ run_stage k es t s (held a) (held b) w.0,
+    (q.1.0 ∙ p.1.0 ∙ w.1.0, q.1.1 ∙ p.1.1 ∙ w.1.1, q.1.2 ∙ p.1.2 ∙ w.1.2),
+  )
     where
-      go : (q : ℕ) → (q ≡ 0 → ⊥) → (q ≡ 1 → ⊥) → (q ≡ 2 → ⊥) → (q ≡ 3 → ⊥) → areas s r c ≡ step (get_or (stage_places k es t) q keep) (areas s r c)
-      go zero a b d e = absurd (a refl)
-      go (suc zero) a b d e = absurd (b refl)
-      go (suc (suc zero)) a b d e = absurd (d refl)
-      go (suc (suc (suc zero))) a b d e = absurd (e refl)
-      go (suc (suc (suc (suc q)))) a b d e = refl
+      slots : d.slots.now ≡ placed 1 s t.old.slots t.new.slots b.slots.now
+      slots = ap (λ (y : Areas). y.slots) q.0 ∙ ap (λ (y : Areas). y.slots) p.0
 
--- ---- the run
+      rows : d.rows.now ≡ placed 2 s t.old.rows t.new.rows b.rows.now
+      rows = ap (λ (y : Areas). y.rows) q.0 ∙ ap (λ (y : Areas). placed 2 s t.old.rows t.new.rows y.rows) p.0
 
--- the bytes are written before anything else
-pub room_first : (ps : List Place) (i : ℕ) (s r c : Bytes) (a : Areas) → areas s r c ≡ run i ps a
-    → (k : Kind) (base n : ℕ) (es : List Entry) → RoomPast k base n es a → i ≡ 0 → RoomPast k base n es (areas s r c)
-unfolding run
-room_first ps i s r c a inv k base n es h z = let q : areas s r c ≡ a = rw z at inv in rw q h
+      checkpoints : x ≡ placed 3 s t.old.checkpoints t.new.checkpoints b.checkpoints.now
+      checkpoints = e ∙ ap (λ (y : Areas). placed 3 s t.old.checkpoints t.new.checkpoints y.checkpoints) q.0 ∙ ap (λ (y : Areas). placed 3 s t.old.checkpoints t.new.checkpoints y.checkpoints) p.0
 
-pub run_end : (k : Kind) (es : List Entry) (t : Stage) (s i last : ℕ) (a b : Areas) → b ≡ run i (stage_places k es t) a → last ≡ min s 4 → i ≤ last → last ≤ i
-    → b ≡ run s (stage_places k es t) a
-unfolding stage_places
-run_end k es t = run_done (stage_places k es t) 4 refl
+      whole : areas d.slots.now d.rows.now x
+          ≡ areas (placed 1 s t.old.slots t.new.slots b.slots.now) (placed 2 s t.old.rows t.new.rows b.rows.now) (placed 3 s t.old.checkpoints t.new.checkpoints b.checkpoints.now)
+      whole = rw (slots, rows, checkpoints) refl

@@ -1,23 +1,23 @@
 -- What an append decides before it stores, in the form in which the code meets it: 13, the ends, and the whole plan.
 -- The stage that is decided has the places of loc_calls.
-use Prim.Native.Nat.{ℕ, zero, suc, ◌+◌, ◌-◌, ◌*◌, ◌/◌, ◌^◌, ◌≤◌, ◌<◌}
+use Prim.Native.Nat.{ℕ, zero, suc, ◌+◌, ◌*◌, ◌/◌, ◌^◌, ◌≤◌, ◌<◌}
 use mathlib.Core.Path.{◌≡◌, refl, sym, ap, ◌∙◌}
-use mathlib.Core.Logic.{◌⊎◌, inl, inr}
 use mathlib.Core.Bool.{Bool, true, false, not, true≢false, false≢true}
 use mathlib.Core.List.{List, [], ◌∷◌, flatten}
-use native.Mathlib.Nat.{add-zero, zero-add, mul_comm, div-lt_iff_lt-mul, div-mul-le_self, mul-le-mul_right}
+use native.Mathlib.Nat.{add-zero, zero-add}
 use native.Mathlib.Omega.{arith}
 use lib.Dec.{ltb}
 use lib.ListN.{length, get_or, replicate, length-replicate, get_or-replicate}
-use borrow.Author.Tests.{lt-ltb, le-ltb, ltb-true, ltb-false}
+use Rattle.std.specs.Prelude.{Result, Ok, Err}
 use Rattle.loc_leaf.specs.declared.Kind.{Kind}
 use Rattle.loc_leaf.specs.declared.Kind.TheVariants.{Paired, Single}
-use Rattle.loc_leaf.specs.Answers.{refuse, ◌or_else◌}
+use Rattle.loc_leaf.specs.declared.refusal.Refusal.{Refusal}
+use Rattle.loc_leaf.specs.declared.refusal.Refusal.TheVariants.{ListsDiffer}
+use Rattle.loc_leaf.specs.Answers.{refuse, ◌or_else◌, number_of, refusal_of}
 use Rattle.loc_leaf.specs.Bytes.{Bytes}
 use Rattle.loc_leaf.specs.Area.{counted}
 use Rattle.loc_leaf.specs.Kind.{row_width, checkpoint_width}
-use Rattle.loc_leaf.proofs.Booleans.{is?}
-use Rattle.loc_leaf.proofs.Refusals.{or_else_first, or_else_assoc}
+use Rattle.loc_leaf.proofs.Refusals.{or_else_first, or_else_assoc, refuse_zero, number_some}
 use Rattle.loc_leaf.proofs.AreaLaws.{counted_le, length_flatten}
 use Rattle.loc_calls.specs.Areas.{Areas, sizes, count}
 use Rattle.loc_calls.specs.Table.{Entry, Batch, append, zipped, entries, uneven, entries_refusal, start_refusal, end_past, batch_refusal, table}
@@ -28,51 +28,61 @@ use Rattle.loc_calls.proofs.Batches.{Fits, batch_tested, batch_fits}
 use Rattle.loc_calls.proofs.Gathered.{widths_slots, widths_rows, widths_checkpoints, length_slots, length_checkpoints_from}
 use Rattle.loc_store.specs.declared.Lengths.{Lengths}
 use Rattle.loc_store.specs.declared.Checked.{Checked}
-use Rattle.loc_store.specs.Areas.{EndsOf, Checks}
-use Rattle.loc_batch.specs.Lists.{entry_at, as_entry, listed, Held, row_total, Tested}
+use Rattle.loc_store.specs.Areas.{EndsOf, Finds}
+use Rattle.loc_batch.specs.Lists.{entry_at, as_entry, listed, batched, Held, row_total, Tested}
 use Rattle.loc_batch.proofs.EntryLaws.{starts_even, spans_even}
-use Rattle.loc_batch.proofs.BatchLaws.{rows_staged}
-use Rattle.loc_append.specs.Plans.{TestedOn, windows, reached, Reaches, Ready, RoomPast, Planned}
+use Rattle.loc_batch.proofs.BatchLaws.{length_listed, rows_staged}
+use Rattle.loc_append.specs.Plans.{TestedOn, windows, reached, EndReached, Reaches, Ready, RoomPast, Planned}
 use Rattle.loc_batch.specs.declared.Record.{Record}
 use Rattle.loc_append.specs.declared.Stage.{Stage}
-use Rattle.loc_append.specs.declared.Decision.{Decision}
 
--- ---- an end past its area
+-- ---- the ends that are reached
 
-pub past_is : (size end w n : ℕ) → end ≤ size → 0 < w → ltb ((size - end) / w) n ≡ ltb size (end + w * n)
-past_is size end w n h p = go (is? (ltb ((size - end) / w) n))
-  where
-    go : (ltb ((size - end) / w) n ≡ true) ⊎ (ltb ((size - end) / w) n ≡ false) → ltb ((size - end) / w) n ≡ ltb size (end + w * n)
-    go (inl t) =
-        let g : size - end < n * w = (div-lt_iff_lt-mul {k = w} p).0 (ltb-true ((size - end) / w) n t) in
-        t ∙ sym (lt-ltb size (end + w * n) (omega (arith, mul_comm n w)))
-    go (inr t) =
-        let g : n * w ≤ (size - end) / w * w = mul-le-mul_right w (ltb-false ((size - end) / w) n t) in
-        t ∙ sym (le-ltb size (end + w * n) (omega (arith, div-mul-le_self (size - end) w, mul_comm n w)))
+-- what is given for a test is a refusal where the test holds
+held_is : (b : Bool) (x : Refusal) → number_of x ≡ refuse b 13 → b ≡ true
+held_is true x h = refl
+held_is false x h = absurd (number_some x h)
 
-module _ (k : Kind) (slots rows checkpoints : ℕ) (old : Lengths) (base n r : ℕ) (b : Bool) (eb : b ≡ ltb slots (old.slots + 2 * n)) where
-  pub reach_slots : (t : Stage) → b ≡ true → Reaches k slots rows checkpoints old base n r (record { number = 13; stage = t })
-  unfolding reached
-  reach_slots t h = record { number = rw (← eb, h) refl; stage = λ e. absurd (omega arith); few = λ e. absurd (omega arith) }
+module _ (k : Kind) (a : Areas) (o : Checked) (q : Finds k a o) where
+  pub slots_inside : o.ends.slots ≤ length a.slots
+  slots_inside = omega (arith, q.ends.slots, counted_le a.slots)
 
-  module _ (h : b ≡ false) (w : ℕ) (ew : w ≡ row_width k) (c : Bool) (ec : c ≡ ltb rows (old.rows + w * r)) where
-    pub reach_rows : (t : Stage) → c ≡ true → Reaches k slots rows checkpoints old base n r (record { number = 13; stage = t })
+  pub rows_inside : o.ends.rows ≤ length a.rows
+  rows_inside = omega (arith, q.ends.rows, counted_le a.rows)
+
+  pub checkpoints_inside : o.ends.checkpoints ≤ length a.checkpoints
+  checkpoints_inside = omega (arith, q.ends.checkpoints, counted_le a.checkpoints)
+
+  module _ (n r : ℕ) where
+    pub reach_slots : (x : Refusal) → EndReached (length a.slots) (o.ends.slots + 2 * n) (Err x) → Reaches k a o n r (Err x)
     unfolding reached
-    reach_rows t g = record { number = rw (← eb, h, ← ew, ← ec, g) refl; stage = λ e. absurd (omega arith); few = λ e. absurd (omega arith) }
+    reach_slots x e = let t = held_is (ltb (length a.slots) (o.ends.slots + 2 * n)) x e.number in record { number = e.number ∙ rw t refl; stage = tt }
 
-    module _ (g : c ≡ false) (v m : ℕ) (ev : v ≡ checkpoint_width k) (em : m ≡ windows base n) (d : Bool) (ed : d ≡ ltb checkpoints (old.checkpoints + v * m)) where
-      pub reach_checkpoints : (t : Stage) → d ≡ true → Reaches k slots rows checkpoints old base n r (record { number = 13; stage = t })
+    module _ (slots : ℕ) (es : EndReached (length a.slots) (o.ends.slots + 2 * n) (Ok slots)) (w : ℕ) (ew : w ≡ row_width k) where
+      in_slots : ltb (length a.slots) (o.ends.slots + 2 * n) ≡ false
+      in_slots = refuse_zero _ 12 (sym es.number)
+
+      pub reach_rows : (x : Refusal) → EndReached (length a.rows) (o.ends.rows + w * r) (Err x) → Reaches k a o n r (Err x)
       unfolding reached
-      reach_checkpoints t f = record { number = rw (← eb, h, ← ew, ← ec, g, ← ev, ← em, ← ed, f) refl; stage = λ e. absurd (omega arith); few = λ e. absurd (omega arith) }
+      reach_rows x e = let t = held_is (ltb (length a.rows) (o.ends.rows + w * r)) x e.number in record { number = e.number ∙ rw (in_slots, ← ew, t) refl; stage = tt }
 
-      pub reach_done : d ≡ false → base + n < 2 ^ 64
-          → Reaches k slots rows checkpoints old base n r
-          (record { number = 0; stage = record { base = base; n = n; old = old; new = record { slots = old.slots + 2 * n; rows = old.rows + w * r; checkpoints = old.checkpoints + v * m } } })
-      unfolding reached
-      reach_done f q = record { number = rw (← eb, h, ← ew, ← ec, g, ← ev, ← em, ← ed, f) refl; stage = λ _. rw (ew, ev, em) refl; few = λ _. q }
+      module _ (rows : ℕ) (er : EndReached (length a.rows) (o.ends.rows + w * r) (Ok rows)) (v m : ℕ) (ev : v ≡ checkpoint_width k) (em : m ≡ windows o.count n) where
+        in_rows : ltb (length a.rows) (o.ends.rows + w * r) ≡ false
+        in_rows = refuse_zero _ 12 (sym er.number)
 
-pub not_past : (size end w n : ℕ) → end ≤ size → 0 < w → ltb ((size - end) / w) n ≡ false → end + w * n ≤ size
-not_past size end w n h p q = ltb-false size (end + w * n) (sym (past_is size end w n h p) ∙ q)
+        pub reach_checkpoints : (x : Refusal) → EndReached (length a.checkpoints) (o.ends.checkpoints + v * m) (Err x) → Reaches k a o n r (Err x)
+        unfolding reached
+        reach_checkpoints x e =
+            let t = held_is (ltb (length a.checkpoints) (o.ends.checkpoints + v * m)) x e.number in
+            record { number = e.number ∙ rw (in_slots, ← ew, in_rows, ← ev, ← em, t) refl; stage = tt }
+
+        pub reach_done : (checkpoints : ℕ) → EndReached (length a.checkpoints) (o.ends.checkpoints + v * m) (Ok checkpoints) → length a.slots < 2 ^ 64
+            → Reaches k a o n r (Ok (record { base = o.count; old = o.ends; new = record { slots = slots; rows = rows; checkpoints = checkpoints } }))
+        unfolding reached
+        reach_done checkpoints e l = record {
+          number = e.number ∙ rw (in_slots, ← ew, in_rows, ← ev, ← em) refl;
+          stage = (rw (es.inside.0, er.inside.0, e.inside.0, ew, ev, em) refl, omega (arith, q.room, es.inside.1));
+        }
 
 -- ---- the entries of a batch, by place
 
@@ -89,7 +99,7 @@ zipped_listed (s ∷ ss) (l ∷ ls) (p ∷ ps) (c ∷ cs) f i x y z h =
     rw (zipped_listed ss ls ps cs f (i + 1) (omega (arith, x)) (omega (arith, y)) (omega (arith, z)) (λ j g. ap f (omega arith) ∙ h (suc j) (omega arith)))
     (ap {B = List Entry} (λ d. d ∷ listed f (i + 1) (length ls)) (sym (ap f (sym (add-zero i)) ∙ h 0 (omega arith))))
 
-pub entries_listed : (k : Kind) (b : Batch) → uneven k b ≡ false → entries k b ≡ listed (entry_at k b) 0 (length b.lens)
+pub entries_listed : (k : Kind) (b : Batch) → uneven k b ≡ false → entries k b ≡ batched k b
 unfolding entries entry_at
 entries_listed Paired b e =
     zipped_listed b.starts b.lens b.span_starts b.span_counts (entry_at Paired b) 0 (starts_even Paired b e) (spans_even b e).0 (spans_even b e).1 (λ j h. ap (entry_at Paired b) (zero-add j))
@@ -109,24 +119,18 @@ all_held k b agree ea h = record { even = of (uneven k b) (sym ea ∙ h); inside
 -- ---- the tests of a batch
 
 -- the first record's starts are what 17, 23 and 24 look at
-module _ (k : Kind) (a : Areas) (f : ℕ → Entry) (n number : ℕ) (x : Record) (ex : as_entry x ≡ f 0)
-    (en : (e : Entry) → e.start ≡ x.start → e.span_start ≡ x.span_start → number ≡ start_refusal (end_read k a) e) where
-  start_number : number ≡ start_refusal (end_read k a) (f 0)
+module _ (k : Kind) (a : Areas) (b : Batch) (x : Record) (ex : as_entry x ≡ entry_at k b 0) where
+  start_number : (number : ℕ) → ((e : Entry) → e.start ≡ x.start → e.span_start ≡ x.span_start → number ≡ start_refusal (end_read k a) e) → number ≡ start_refusal (end_read k a) (entry_at k b 0)
   unfolding as_entry
-  start_number = en (f 0) (ap (λ (e : Entry). e.start) (sym ex)) (ap (λ (e : Entry). e.span_start) (sym ex))
+  start_number number h = h (entry_at k b 0) (ap (λ (e : Entry). e.start) (sym ex)) (ap (λ (e : Entry). e.span_start) (sym ex))
 
-  pub start_refused : (number ≡ 0 → ⊥) → TestedOn k a f n number 0
-  start_refused h = record { refused = rw (← start_number) (sym (or_else_first number _ h)); total = λ z. absurd (h z) }
+  pub start_refused : (r : Refusal) → ((e : Entry) → e.start ≡ x.start → e.span_start ≡ x.span_start → number_of r ≡ start_refusal (end_read k a) e) → TestedOn k a b (Err r)
+  start_refused r h = record { refused = rw (← start_number (number_of r) h) (sym (or_else_first (number_of r) _ (number_some r))); total = tt }
 
-  pub start_passed : number ≡ 0 → (first rows : ℕ) → Tested k (listed f 0 n) first rows → TestedOn k a f n first rows
-  start_passed z first rows t = record { refused = rw (← start_number, z) t.refused; total = t.total }
+  pub start_passed : ((e : Entry) → e.start ≡ x.start → e.span_start ≡ x.span_start → 0 ≡ start_refusal (end_read k a) e) → (found : Result ℕ Refusal) → Tested k (batched k b) found → TestedOn k a b found
+  start_passed h found t = record { refused = rw (← start_number 0 h) t.refused; total = t.total }
 
 -- ---- the ends that the records of a batch reach
-
-length_listed : (f : ℕ → Entry) (i n : ℕ) → length (listed f i n) ≡ n
-unfolding listed
-length_listed f i zero = refl
-length_listed f i (suc n) = ap suc (length_listed f (i + 1) n)
 
 module _ (k : Kind) (m : ℕ) (es : List Entry) where
   pub slot_bytes_lem : length (flatten (gather (slot_of k) m es)) ≡ 2 * length es
@@ -160,9 +164,9 @@ module _ (k : Kind) (a : Areas) (es : List Entry) (old : Lengths) (eo : EndsOf a
   reached_checkpoints = rw (checkpoint_bytes k (count a) es, en, ← eo.checkpoints, eb) refl
 
 module _ (k : Kind) (a : Areas) (b : Batch) (agree : Bool) (ea : agree ≡ not (uneven k b)) where
-  pub plan_uneven : (t : Stage) → agree ≡ false → Planned k a b (record { number = 7; stage = t })
+  pub plan_uneven : agree ≡ false → Planned k a b (Err ListsDiffer)
   unfolding table
-  plan_uneven t h = record { number = rw (odd (uneven k b) (sym ea ∙ h)) refl; entries = λ e. absurd (omega arith); ready = λ e. absurd (omega arith); held = λ e. absurd (omega arith) }
+  plan_uneven h = record { number = rw (odd (uneven k b) (sym ea ∙ h)) refl; staging = tt }
     where
       odd : (u : Bool) → not u ≡ false → u ≡ true
       odd true q = refl
@@ -172,11 +176,8 @@ module _ (k : Kind) (a : Areas) (b : Batch) (agree : Bool) (ea : agree ≡ not (
     even : uneven k b ≡ false
     even = (all_held k b agree ea h).even
 
-    es : List Entry
-    es = listed (entry_at k b) 0 (length b.lens)
-
-    whole : table_of k a (append b) ≡ batch_refusal k (end_read k a) (new_ends k a es) (sizes a) es
-    unfolding table es
+    whole : table_of k a (append b) ≡ batch_refusal k (end_read k a) (new_ends k a (batched k b)) (sizes a) (batched k b)
+    unfolding table
     whole = rw (even, entries_listed k b even) refl
 
     some_listed : (n : ℕ) → (n ≡ 0 → ⊥) → batch_refusal k (end_read k a) (new_ends k a (listed (entry_at k b) 0 n)) (sizes a) (listed (entry_at k b) 0 n)
@@ -188,7 +189,7 @@ module _ (k : Kind) (a : Areas) (b : Batch) (agree : Bool) (ea : agree ≡ not (
 -- a stage with these ends is ready where the batch is accepted
 ready_from : (k : Kind) (a : Areas) (es : List Entry) (t : Stage) → t.base ≡ count a → EndsOf a t.old
     → t.new.slots ≡ new_end a.slots (gather (slot_of k) (count a) es) → t.new.rows ≡ new_end a.rows (gather (row_of k) (count a) es)
-    → t.new.checkpoints ≡ new_end a.checkpoints (gather (checkpoint_of k) (count a) es) → t.base + t.n < 2 ^ 64
+    → t.new.checkpoints ≡ new_end a.checkpoints (gather (checkpoint_of k) (count a) es) → t.base + length es < 2 ^ 64
     → batch_refusal k (end_read k a) (new_ends k a es) (sizes a) es ≡ 0 → Ready k a es t
 unfolding RoomPast new_end staged
 ready_from k a es t eb eo x y z few ok = record {
@@ -211,81 +212,66 @@ ready_from k a es t eb eo x y z few ok = record {
     fits : Fits a (staged k (count a) es)
     fits = batch_fits k (end_read k a) a es ok
 
-module _ (k : Kind) (a : Areas) (b : Batch) (agree : Bool) (ea : agree ≡ not (uneven k b)) (h : agree ≡ true) (o : Checked) (q : Checks k a o) (n : ℕ) (en : n ≡ length b.lens) where
+module _ (k : Kind) (a : Areas) (b : Batch) (agree : Bool) (ea : agree ≡ not (uneven k b)) (h : agree ≡ true) (o : Checked) (q : Finds k a o) where
   eb : o.count ≡ count a
   unfolding count
   eb = q.count
 
-  all_of : table_of k a (append b) ≡ batch_refusal k (end_read k a) (new_ends k a (listed (entry_at k b) 0 n)) (sizes a) (listed (entry_at k b) 0 n)
-  unfolding es
-  all_of = whole k a b agree ea h ∙ ap (λ (m : ℕ). batch_refusal k (end_read k a) (new_ends k a (listed (entry_at k b) 0 m)) (sizes a) (listed (entry_at k b) 0 m)) (sym en)
+  long : length (batched k b) ≡ length b.lens
+  long = length_listed (entry_at k b) 0 (length b.lens)
 
-  listed_of : entries k b ≡ listed (entry_at k b) 0 n
-  listed_of = entries_listed k b (even k a b agree ea h) ∙ ap (listed (entry_at k b) 0) (sym en)
-
-  pub plan_empty : n ≡ 0 → o.count < 2 ^ 64 → Planned k a b (record { number = 0; stage = record { base = o.count; n = 0; old = o.ends; new = o.ends } })
+  pub plan_empty : length b.lens ≡ 0 → o.count < 2 ^ 64 → Planned k a b (Ok (record { base = o.count; old = o.ends; new = o.ends }))
   plan_empty z few = record {
-    number = sym (all_of ∙ none);
-    entries = λ _. listed_of ∙ ap (listed (entry_at k b) 0) z;
-    ready = λ _. ready_from k a (listed (entry_at k b) 0 0) _ eb q.ends (same a.slots (slot_of k) q.ends.slots) (same a.rows (row_of k) q.ends.rows) (same a.checkpoints (checkpoint_of k) q.ends.checkpoints) (omega arith) none₀;
-    held = λ _. record { even = even k a b agree ea h; inside = omega arith };
+    number = sym (whole k a b agree ea h ∙ none);
+    staging = record {
+      entries = entries_listed k b (even k a b agree ea h);
+      ready = ready_from k a (batched k b) _ eb q.ends (same a.slots (slot_of k) q.ends.slots) (same a.rows (row_of k) q.ends.rows) (same a.checkpoints (checkpoint_of k) q.ends.checkpoints) (omega (arith, long)) none;
+      held = all_held k b agree ea h;
+    };
   }
     where
       none₀ : batch_refusal k (end_read k a) (new_ends k a (listed (entry_at k b) 0 0)) (sizes a) (listed (entry_at k b) 0 0) ≡ 0
       none₀ = unfold batch_refusal in (unfold listed in refl)
 
-      none : batch_refusal k (end_read k a) (new_ends k a (listed (entry_at k b) 0 n)) (sizes a) (listed (entry_at k b) 0 n) ≡ 0
+      none : batch_refusal k (end_read k a) (new_ends k a (batched k b)) (sizes a) (batched k b) ≡ 0
       none = rw z none₀
 
-      same : (xs : Bytes) (g : ℕ → Entry → List Bytes) {v : ℕ} → v ≡ counted xs → v ≡ new_end xs (gather g (count a) (listed (entry_at k b) 0 0))
-      same xs g e = e ∙ sym (unfold new_end in (unfold listed in (unfold gather in (unfold flatten in add-zero (counted xs)))))
+      same : (xs : Bytes) (g : ℕ → Entry → List Bytes) {v : ℕ} → v ≡ counted xs → v ≡ new_end xs (gather g (count a) (batched k b))
+      same xs g e = rw z (e ∙ sym (unfold new_end in (unfold listed in (unfold gather in (unfold flatten in add-zero (counted xs))))))
 
-  module _ (z : n ≡ 0 → ⊥) (number rows : ℕ) (tested : TestedOn k a (entry_at k b) n number rows) where
+  module _ (z : length b.lens ≡ 0 → ⊥) where
     -- 17, 23, 24 and the records' refusals, then 13
-    number_first : batch_refusal k (end_read k a) (new_ends k a (listed (entry_at k b) 0 n)) (sizes a) (listed (entry_at k b) 0 n) ≡ number or_else refuse (end_past (new_ends k a (listed (entry_at k b) 0 n)) (sizes a)) 13
-    number_first =
-        some_listed k a b agree ea h n z
-        ∙ rw tested.refused (sym (or_else_assoc (start_refusal (end_read k a) (entry_at k b 0)) (entries_refusal k (listed (entry_at k b) 0 n)) (refuse (end_past (new_ends k a (listed (entry_at k b) 0 n)) (sizes a)) 13)))
+    number_first : (found : Result ℕ Refusal) → TestedOn k a b found
+        → batch_refusal k (end_read k a) (new_ends k a (batched k b)) (sizes a) (batched k b) ≡ refusal_of found or_else refuse (end_past (new_ends k a (batched k b)) (sizes a)) 13
+    number_first found tested =
+        some_listed k a b agree ea h (length b.lens) z
+        ∙ rw tested.refused (sym (or_else_assoc (start_refusal (end_read k a) (entry_at k b 0)) (entries_refusal k (batched k b)) (refuse (end_past (new_ends k a (batched k b)) (sizes a)) 13)))
 
-    pub plan_refused : (t : Stage) → (number ≡ 0 → ⊥) → Planned k a b (record { number = number; stage = t })
-    plan_refused t g = record {
-      number = sym (all_of ∙ number_first ∙ or_else_first number _ g);
-      entries = λ e. absurd (g e);
-      ready = λ e. absurd (g e);
-      held = λ e. absurd (g e);
-    }
+    pub plan_refused : (x : Refusal) → TestedOn k a b (Err x) → Planned k a b (Err x)
+    plan_refused x tested = record { number = sym (whole k a b agree ea h ∙ number_first (Err x) tested ∙ or_else_first (number_of x) _ (number_some x)); staging = tt }
 
-    module _ (ok : number ≡ 0) (d : Decision) (r : Reaches k (length a.slots) (length a.rows) (length a.checkpoints) o.ends o.count n rows d) where
-      reach_number : d.number ≡ batch_refusal k (end_read k a) (new_ends k a (listed (entry_at k b) 0 n)) (sizes a) (listed (entry_at k b) 0 n)
+    module _ (rows : ℕ) (tested : TestedOn k a b (Ok rows)) where
+      slots_are : new_end a.slots (gather (slot_of k) (count a) (batched k b)) ≡ o.ends.slots + 2 * length b.lens
+      slots_are = reached_slots k a (batched k b) o.ends q.ends o.count (length b.lens) eb long
+
+      rows_are : new_end a.rows (gather (row_of k) (count a) (batched k b)) ≡ o.ends.rows + row_width k * rows
+      rows_are = reached_rows k a (batched k b) o.ends q.ends o.count (length b.lens) eb long rows tested.total
+
+      checkpoints_are : new_end a.checkpoints (gather (checkpoint_of k) (count a) (batched k b)) ≡ o.ends.checkpoints + checkpoint_width k * windows o.count (length b.lens)
+      checkpoints_are = reached_checkpoints k a (batched k b) o.ends q.ends o.count (length b.lens) eb long
+
+      reach_number : (d : Result Stage Refusal) → Reaches k a o (length b.lens) rows d → refusal_of d ≡ batch_refusal k (end_read k a) (new_ends k a (batched k b)) (sizes a) (batched k b)
       unfolding end_past new_ends staged sizes reached
-      reach_number =
-          r.number
-          ∙ rw (← reached_slots k a (listed (entry_at k b) 0 n) o.ends q.ends o.count n eb long, ← reached_rows k a (listed (entry_at k b) 0 n) o.ends q.ends o.count n eb long rows (tested.total ok), ← reached_checkpoints k a (listed (entry_at k b) 0 n) o.ends q.ends o.count n eb long)
-          (sym (number_first ∙ rw ok refl))
-        where
-          long : length (listed (entry_at k b) 0 n) ≡ n
-          long = length_listed (entry_at k b) 0 n
+      reach_number d r = r.number ∙ rw (← slots_are, ← rows_are, ← checkpoints_are) (sym (number_first (Ok rows) tested))
 
-      pub plan_reached : Planned k a b d
+      pub plan_reached : (d : Result Stage Refusal) → Reaches k a o (length b.lens) rows d → Planned k a b d
       unfolding reached
-      plan_reached = record {
-        number = reach_number ∙ sym all_of;
-        entries = λ e. listed_of ∙ ap (listed (entry_at k b) 0) (sym (ap (λ (t : Stage). t.n) (r.stage e)));
-        ready = λ e. rw (r.stage e) (ready_from k a (listed (entry_at k b) 0 n) _ eb q.ends
-            (sym (reached_slots k a (listed (entry_at k b) 0 n) o.ends q.ends o.count n eb long)) (sym (reached_rows k a (listed (entry_at k b) 0 n) o.ends q.ends o.count n eb long rows (tested.total ok)))
-            (sym (reached_checkpoints k a (listed (entry_at k b) 0 n) o.ends q.ends o.count n eb long)) (r.few e) (sym reach_number ∙ e));
-        held = λ e. rw (r.stage e, en) (all_held k b agree ea h);
+      plan_reached (Err x) r = record { number = reach_number (Err x) r ∙ sym (whole k a b agree ea h); staging = tt }
+      plan_reached (Ok t) r = record {
+        number = reach_number (Ok t) r ∙ sym (whole k a b agree ea h);
+        staging = record {
+          entries = entries_listed k b (even k a b agree ea h);
+          ready = rw r.stage.0 (ready_from k a (batched k b) _ eb q.ends (sym slots_are) (sym rows_are) (sym checkpoints_are) (omega (arith, r.stage.1, long)) (sym (reach_number (Ok t) r)));
+          held = all_held k b agree ea h;
+        };
       }
-        where
-          long : length (listed (entry_at k b) 0 n) ≡ n
-          long = length_listed (entry_at k b) 0 n
-
--- what `reach` asks
-pub ends_inside : (k : Kind) (a : Areas) (o : Checked) → Checks k a o
-    → (o.ends.slots ≤ length a.slots) × (o.ends.rows ≤ length a.rows) × (o.ends.checkpoints ≤ length a.checkpoints) × (2 * o.count ≤ length a.slots)
-ends_inside k a o q = (
-  omega (arith, q.ends.slots, counted_le a.slots),
-  omega (arith, q.ends.rows, counted_le a.rows),
-  omega (arith, q.ends.checkpoints, counted_le a.checkpoints),
-  omega (arith, q.room),
-)

@@ -1,9 +1,11 @@
 -- The pass over the records against what loc_calls says of a sound index: how it begins, one record more, and how it ends.
 -- A record that lacks its row, a row that is not wanted, a sum past 2^64 or a checkpoint that differs makes the whole index unsound.
+use Rattle.std.specs.Prelude.{Option, Some, None}
+use Rattle.std.specs.Option.{is_some, is_none}
 use Prim.Native.Nat.{ℕ, zero, suc, ◌+◌, ◌-◌, ◌*◌, ◌/◌, ◌%◌, ◌^◌, ◌≤◌, ◌<◌}
 use mathlib.Core.Path.{◌≡◌, refl, sym, ap, ◌∙◌, subst}
 use mathlib.Core.Logic.{◌⊎◌, inl, inr}
-use mathlib.Core.Bool.{Bool, true, false, cond, ◌&&◌, and-false, false≢true}
+use mathlib.Core.Bool.{Bool, true, false, not, cond, ◌&&◌, and-false, false≢true}
 use mathlib.Core.List.{List}
 use native.Mathlib.Nat.{zero-add, add-zero}
 use native.Mathlib.Numerals.{add-one}
@@ -15,25 +17,21 @@ use borrow.Author.Tests.{lt-ltb, le-ltb, le-leb, ltb-true, ltb-false, eqb-true, 
 use Rattle.loc_leaf.specs.declared.Kind.{Kind}
 use Rattle.loc_leaf.specs.declared.Kind.TheVariants.{Paired, Single}
 use Rattle.loc_leaf.specs.declared.Value.{Value}
-use Rattle.loc_leaf.specs.declared.delta_loc.Lookup.{Lookup}
-use Rattle.loc_leaf.specs.declared.delta_loc.Lookup.TheVariants.{Found, Missing}
 use Rattle.loc_leaf.specs.Bytes.{Bytes}
 use Rattle.loc_leaf.specs.Area.{counted, fill}
 use Rattle.loc_leaf.specs.Kind.{row_width, checkpoint_width}
 use Rattle.loc_leaf.specs.Slot.{needs_row, inline, slot_at}
 use Rattle.loc_leaf.specs.Rows.{row_value, has_row, row_list, lookup, slot_value, ascending, value_in}
 use Rattle.loc_leaf.proofs.Booleans.{is?}
-use Rattle.loc_calls.specs.Areas.{Areas, areas, count}
+use Rattle.loc_calls.specs.Areas.{Areas, count}
 use Rattle.loc_calls.specs.Reading.{sum_after, all_after, lookup_at, has, value_at, strides_after, spans_after, window_end}
 use Rattle.loc_calls.specs.Audit.{body_end_after, span_end_after, both_ends, checkpoint_sound, row_fits, row_wanted, rows_sound, sound}
 use Rattle.loc_calls.proofs.Reading.{all_fails}
 use Rattle.loc_rows.specs.declared.Row.{Row}
-use Rattle.loc_rows.specs.Reader.{row_at, rows_from, is_end}
+use Rattle.loc_rows.specs.Reader.{row_at, rows_from}
 use Rattle.loc_rows.proofs.ReaderLaws.{row_none, rows_lent}
 use Rattle.loc_audit.specs.declared.Ends.{Ends}
-use Rattle.loc_audit.specs.declared.Step.{Step}
-use Rattle.loc_audit.specs.declared.Step.TheVariants.{Next, Unsound}
-use Rattle.loc_audit.specs.Pass.{is_own, place_after, slot_says, added, valued, record_step, checkpoint_is, checkpoint_holds, tested, ends_after, audit_step, begin, goes_on, is_sound, Auditable, Lent, Judges}
+use Rattle.loc_audit.specs.Pass.{own_value, place_after, slot_says, added, valued, record_step, checkpoint_is, checkpoint_holds, tested, ends_after, Auditable}
 use Rattle.loc_audit.proofs.RowPassLaws.{Left, own_wanted, sound_from, Turn, turn, rows_left}
 
 -- ---- over the numbers from 1 on
@@ -87,7 +85,7 @@ module _ (k : Kind) (a : Areas) where
       (omega (arith, sum_grows (λ j. (value_at k a j).spans) 0 n (m - n)))
 
   module _ (n : ℕ) (h : n < count a) where
-    unsound_row : lookup_at k a (suc n) ≡ Missing → sound k a ≡ false
+    unsound_row : lookup_at k a (suc n) ≡ None → sound k a ≡ false
     unfolding sound has
     unsound_row e = rw (all_fails (λ i. has (lookup_at k a i)) (count a) n h (ap has e)) refl
 
@@ -124,7 +122,7 @@ module _ (k : Kind) (a : Areas) where
 -- ---- one record's value
 
 -- what a single record says has no spans
-single_spans : (a : Areas) (id : ℕ) (v : Value) → lookup_at Single a id ≡ Found v → v.spans ≡ 0
+single_spans : (a : Areas) (id : ℕ) (v : Value) → lookup_at Single a id ≡ Some v → v.spans ≡ 0
 unfolding lookup_at slot_value lookup row_value inline
 single_spans a id v e = go (is? (needs_row Single (slot_at a.slots id))) (is? (has_row id (row_list Single a.rows)))
   where
@@ -134,7 +132,7 @@ single_spans a id v e = go (is? (needs_row Single (slot_at a.slots id))) (is? (h
     go (inl t) (inr u) = cc
     go (inr t) _ = cc
 
-module _ (k : Kind) (a : Areas) (n : ℕ) (v : Value) (e : lookup_at k a (suc n) ≡ Found v) where
+module _ (k : Kind) (a : Areas) (n : ℕ) (v : Value) (e : lookup_at k a (suc n) ≡ Some v) where
   body_more : body_end_after k a (suc n) ≡ body_end_after k a n + 8 * v.strides
   unfolding body_end_after strides_after sum_after value_at value_in
   body_more = rw (zero-add (suc n), e) (omega arith)
@@ -157,11 +155,11 @@ pub record Passed (k : Kind) (a : Areas) (xs : Bytes) (n at : ℕ) (e : Ends) : 
   pub rest : rows_sound k a (row_list k a.rows) ≡ sound_from k a xs at
 
 -- n records are passed, or the index is unsound
-abbrev pub Stepped : Kind → Areas → Bytes → ℕ → ℕ → Step → Type 0
-Stepped k a xs n at (Next e) = Passed k a xs n at e
-Stepped k a xs n at Unsound = sound k a ≡ false
+abbrev pub Stepped : Kind → Areas → Bytes → ℕ → ℕ → Option Ends → Type 0
+Stepped k a xs n at (Some e) = Passed k a xs n at e
+Stepped k a xs n at None = sound k a ≡ false
 
-pass_begins : (k : Kind) (a : Areas) (end : ℕ) → Auditable k a → end ≡ counted a.rows → end ≤ length a.rows → Passed k a (take end a.rows) 0 16 (record { body = 16; span = 16 })
+pub pass_begins : (k : Kind) (a : Areas) (end : ℕ) → Auditable k a → end ≡ counted a.rows → end ≤ length a.rows → Passed k a (take end a.rows) 0 16 (record { body = 16; span = 16 })
 unfolding all_after body_end_after span_end_after strides_after spans_after sum_after
 pass_begins k a end g e h =
     record {
@@ -178,7 +176,7 @@ pass_begins k a end g e h =
     lent : rows_from (row_width k) (take end a.rows) 16 ≡ row_list k a.rows
     lent = rows_lent k a.rows (row_width k) end refl e h
 
-pass_ends : (k : Kind) (a : Areas) (xs : Bytes) (n at : ℕ) (e : Ends) → Auditable k a → n ≡ count a → Passed k a xs n at e → sound k a ≡ is_end (row_at (row_width k) xs at)
+pass_ends : (k : Kind) (a : Areas) (xs : Bytes) (n at : ℕ) (e : Ends) → Auditable k a → n ≡ count a → Passed k a xs n at e → sound k a ≡ is_none (row_at (row_width k) xs at)
 unfolding sound
 pass_ends k a xs n at e g q w =
     rw (
@@ -211,7 +209,7 @@ module _ (k : Kind) (a : Areas) (xs : Bytes) (n at : ℕ) (e : Ends) (g : Audita
   abbrev slot : Bytes
   slot = slot_at a.slots (suc n)
 
-  abbrev row : Row
+  abbrev row : Option Row
   row = row_at (row_width k) xs at
 
   abbrev next : ℕ
@@ -221,15 +219,15 @@ module _ (k : Kind) (a : Areas) (xs : Bytes) (n at : ℕ) (e : Ends) (g : Audita
   there = turn k a rs xs n at h w.left
 
   -- the row at the reader's place is the one that loc_calls looks up
-  looks : record_step k a.slots (suc n) row e ≡ valued e (slot_says k slot (lookup k (suc n) rs))
+  looks : record_step k a.slots (suc n) (own_value row (suc n)) e ≡ valued e (slot_says k slot (lookup k (suc n) rs))
   unfolding record_step
-  looks = ap (λ (l : Lookup). valued e (slot_says k slot l)) there.own
+  looks = ap (λ (l : Option Value). valued e (slot_says k slot l)) there.own
 
   -- with it, what is left to test of the rows
-  rests : (l : Lookup) → lookup k (suc n) rs ≡ l → rows_sound k a rs ≡ (own_wanted k slot l && sound_from k a xs next)
-  rests l q = w.rest ∙ there.rest ∙ ap (λ (x : Lookup). own_wanted k slot x && sound_from k a xs next) q
+  rests : (l : Option Value) → lookup k (suc n) rs ≡ l → rows_sound k a rs ≡ (own_wanted k slot l && sound_from k a xs next)
+  rests l q = w.rest ∙ there.rest ∙ ap (λ (x : Option Value). own_wanted k slot x && sound_from k a xs next) q
 
-  module _ (v : Value) (found : lookup_at k a (suc n) ≡ Found v) (on : rows_sound k a rs ≡ sound_from k a xs next) where
+  module _ (v : Value) (found : lookup_at k a (suc n) ≡ Some v) (on : rows_sound k a rs ≡ sound_from k a xs next) where
     abbrev after : Ends
     after = record { body = e.body + 8 * v.strides; span = e.span + 8 * v.spans }
 
@@ -273,12 +271,12 @@ module _ (k : Kind) (a : Areas) (xs : Bytes) (n at : ℕ) (e : Ends) (g : Audita
             (checkpoint_is_lem k a (n / 1024) after (rw o body_is) (rw o span_is_lem) (omega arith) ∙ ap (λ (i : ℕ). checkpoint_is k a.checkpoints i after) (sym q) ∙ u)
         go (inr z) = let u : true ≡ false = rw z at t in cc
 
-    goes_on_lem : e.body + 8 * v.strides < 2 ^ 64 → e.span + 8 * v.spans < 2 ^ 64 → Stepped k a xs (suc n) next (tested k a.checkpoints (suc n) (Next after))
+    goes_on_lem : e.body + 8 * v.strides < 2 ^ 64 → e.span + 8 * v.spans < 2 ^ 64 → Stepped k a xs (suc n) next (tested k a.checkpoints (suc n) (Some after))
     unfolding tested has
     goes_on_lem hb hs = go (is? (checkpoint_holds k a.checkpoints (suc n) after))
       where
         go : (checkpoint_holds k a.checkpoints (suc n) after ≡ true) ⊎ (checkpoint_holds k a.checkpoints (suc n) after ≡ false)
-            → Stepped k a xs (suc n) next (cond (checkpoint_holds k a.checkpoints (suc n) after) (Next after) Unsound)
+            → Stepped k a xs (suc n) next (cond (checkpoint_holds k a.checkpoints (suc n) after) (Some after) None)
         go (inl t) =
             rw t
             (record {
@@ -307,95 +305,82 @@ module _ (k : Kind) (a : Areas) (xs : Bytes) (n at : ℕ) (e : Ends) (g : Audita
       where
         go : (ltb (e.body + 8 * v.strides) (2 ^ 64) ≡ true) ⊎ (ltb (e.body + 8 * v.strides) (2 ^ 64) ≡ false)
             → (ltb (e.span + 8 * v.spans) (2 ^ 64) ≡ true) ⊎ (ltb (e.span + 8 * v.spans) (2 ^ 64) ≡ false)
-            → Stepped k a xs (suc n) next (tested k a.checkpoints (suc n) (cond (ltb (e.body + 8 * v.strides) (2 ^ 64) && ltb (e.span + 8 * v.spans) (2 ^ 64)) (Next after) Unsound))
+            → Stepped k a xs (suc n) next (tested k a.checkpoints (suc n) (cond (ltb (e.body + 8 * v.strides) (2 ^ 64) && ltb (e.span + 8 * v.spans) (2 ^ 64)) (Some after) None))
         go (inl b) (inl s) = rw (b, s) (goes_on_lem (ltb-true _ _ b) (ltb-true _ _ s))
         go (inl b) (inr s) = rw (b, s) (spans_past (ltb-false _ _ s))
         go (inr b) _ = rw b (unsound_body k a n h (omega (arith, ltb-false (e.body + 8 * v.strides) (2 ^ 64) b, body_is)))
 
   -- the record has a row: it is wanted, or the index is unsound
-  by_row : (v : Value) → lookup k (suc n) rs ≡ Found v → Stepped k a xs (suc n) next (tested k a.checkpoints (suc n) (valued e (slot_says k slot (Found v))))
+  by_row : (v : Value) → lookup k (suc n) rs ≡ Some v → Stepped k a xs (suc n) next (tested k a.checkpoints (suc n) (valued e (slot_says k slot (Some v))))
   unfolding valued tested slot_says lookup_at slot_value row_wanted own_wanted
   by_row v q = go (is? (needs_row k slot)) (is? (row_fits k slot v))
     where
       go : (needs_row k slot ≡ true) ⊎ (needs_row k slot ≡ false) → (row_fits k slot v ≡ true) ⊎ (row_fits k slot v ≡ false)
-          → Stepped k a xs (suc n) next (tested k a.checkpoints (suc n) (valued e (cond (needs_row k slot && row_fits k slot v) (Found v) Missing)))
-      go (inl t) (inl f) = rw (t, f) (adds v (rw (t, q) refl) (rests (Found v) q ∙ rw (t, f) refl))
-      go (inl t) (inr f) = rw (t, f) (unsound_rows k a (rests (Found v) q ∙ rw (t, f) refl))
-      go (inr t) _ = rw t (unsound_rows k a (rests (Found v) q ∙ rw t refl))
+          → Stepped k a xs (suc n) next (tested k a.checkpoints (suc n) (valued e (cond (needs_row k slot && row_fits k slot v) (Some v) None)))
+      go (inl t) (inl f) = rw (t, f) (adds v (rw (t, q) refl) (rests (Some v) q ∙ rw (t, f) refl))
+      go (inl t) (inr f) = rw (t, f) (unsound_rows k a (rests (Some v) q ∙ rw (t, f) refl))
+      go (inr t) _ = rw t (unsound_rows k a (rests (Some v) q ∙ rw t refl))
 
   -- it has none: its slot needs none, or the index is unsound
-  by_slot : lookup k (suc n) rs ≡ Missing → Stepped k a xs (suc n) next (tested k a.checkpoints (suc n) (valued e (slot_says k slot Missing)))
+  by_slot : lookup k (suc n) rs ≡ None → Stepped k a xs (suc n) next (tested k a.checkpoints (suc n) (valued e (slot_says k slot None)))
   unfolding valued tested slot_says lookup_at slot_value own_wanted
   by_slot q = go (is? (needs_row k slot))
     where
       go : (needs_row k slot ≡ true) ⊎ (needs_row k slot ≡ false)
-          → Stepped k a xs (suc n) next (tested k a.checkpoints (suc n) (valued e (cond (needs_row k slot) Missing (Found (inline k slot)))))
+          → Stepped k a xs (suc n) next (tested k a.checkpoints (suc n) (valued e (cond (needs_row k slot) None (Some (inline k slot)))))
       go (inl t) = rw t (unsound_row k a n h (rw (t, q) refl))
-      go (inr t) = rw t (adds (inline k slot) (rw t refl) (rests Missing q))
+      go (inr t) = rw t (adds (inline k slot) (rw t refl) (rests None q))
 
-  pass_turn : Stepped k a xs (suc n) next (ends_after k a.slots a.checkpoints (suc n) row e)
+  pass_turn : Stepped k a xs (suc n) next (ends_after k a.slots a.checkpoints (suc n) (own_value row (suc n)) e)
   unfolding ends_after
   pass_turn = rw looks (go (lookup k (suc n) rs) refl)
     where
-      go : (l : Lookup) → lookup k (suc n) rs ≡ l → Stepped k a xs (suc n) next (tested k a.checkpoints (suc n) (valued e (slot_says k slot l)))
-      go (Found v) q = by_row v q
-      go Missing q = by_slot q
+      go : (l : Option Value) → lookup k (suc n) rs ≡ l → Stepped k a xs (suc n) next (tested k a.checkpoints (suc n) (valued e (slot_says k slot l)))
+      go (Some v) q = by_row v q
+      go None q = by_slot q
 
 -- ---- the loop
 
--- the invariant: the records up to n are passed
-pub record Passing (k : Kind) (s r c xs : Bytes) (m n at : ℕ) (q : Step) : Type 0 where
-  pub inside : n ≤ m
-  pub stepped : Stepped k (areas s r c) xs n at q
+none_is : (row : Option Row) (b : Bool) → is_some row ≡ not b → b ≡ is_none row
+none_is None true e = refl
+none_is None false e = cc
+none_is (Some r) true e = cc
+none_is (Some r) false e = refl
 
-module _ (k : Kind) (s r c xs : Bytes) (m : ℕ) (g : Lent k s r c xs m) where
-  pub passing_begins : Passing k s r c xs m 0 16 begin
-  unfolding begin
-  passing_begins = record { inside = omega arith; stepped = rw g.is_published (pass_begins k (areas s r c) (counted r) g.auditable refl g.inside) }
+-- the reader goes along; `own` is what the row at its place says of the next record
+module _ (k : Kind) (a : Areas) (g : Auditable k a) (xs : Bytes) (n at : ℕ) (e : Ends) (w : Passed k a xs n at e) (row : Option Row) (er : row ≡ row_at (row_width k) xs at)
+    (m : ℕ) (em : m ≡ fill 2 a.slots) where
+  module _ (h : n < m) (own : Option Value) (eo : own ≡ own_value row (n + 1)) (r : Option Ends) (ee : r ≡ ends_after k a.slots a.checkpoints (n + 1) own e) where
+    stepped : Stepped k a xs (n + 1) (place_after (row_width k) row (n + 1) at) r
+    unfolding count
+    stepped = rw (ee, eo, er, add-one n) (pass_turn k a xs n at e g (omega arith) w)
 
-  module _ (n at : ℕ) where
-    module _ (w : ℕ) (ew : w ≡ row_width k) (row : Row) (er : row ≡ row_at w xs at) where
-      there_is : row ≡ row_at (row_width k) xs at
-      there_is = rw (← ew) er
+    pub pass_stops : r ≡ None → false ≡ sound k a
+    pass_stops q = sym (subst (Stepped k a xs (n + 1) (place_after (row_width k) row (n + 1) at)) q stepped)
 
-      pub passing_next : (q : Step) → Passing k s r c xs m n at q → goes_on q n m ≡ true → (q' : Step) → q' ≡ audit_step k s c (n + 1) row q → (at' : ℕ) → at' ≡ place_after w row (n + 1) at → Passing k s r c xs m (n + 1) at' q'
-      unfolding goes_on audit_step count
-      passing_next (Next e) p t q' eq at' ea =
-          let h : n < m = ltb-true n m t in
-          record { inside = omega arith; stepped = rw (eq, ea, ew, there_is, add-one n) (pass_turn k (areas s r c) xs n at e g.auditable (omega (arith, g.is_count)) p.stepped) }
-      passing_next Unsound p t q' eq at' ea = absurd (false≢true t)
+    module _ (after : Ends) (q : r ≡ Some after) where
+      passed : Passed k a xs (n + 1) (place_after (row_width k) row (n + 1) at) after
+      passed = subst (Stepped k a xs (n + 1) (place_after (row_width k) row (n + 1) at)) q stepped
 
-      pub passing_ends : (q : Step) → Passing k s r c xs m n at q → goes_on q n m ≡ false → (b : Bool) → b ≡ is_sound q row → b ≡ sound k (areas s r c)
-      unfolding goes_on is_sound count
-      passing_ends (Next e) p t b eb =
-          let h : m ≤ n = ltb-false n m t in
-          eb ∙ ap is_end there_is ∙ sym (pass_ends k (areas s r c) xs n at e g.auditable (omega (arith, g.is_count, p.inside)) p.stepped)
-      passing_ends Unsound p t b eb = eb ∙ sym p.stepped
+      -- past a record's own row
+      pub pass_on : is_some own ≡ true → Passed k a xs (n + 1) (at + row_width k) after
+      unfolding place_after
+      pass_on t = let z : is_some (own_value row (n + 1)) ≡ true = ap is_some (sym eo) ∙ t in rw z at passed
 
--- a record follows only below the count
-pub goes_below : (q : Step) (n m : ℕ) → goes_on q n m ≡ true → n < m
-unfolding goes_on
-goes_below (Next e) n m t = ltb-true n m t
-goes_below Unsound n m t = absurd (false≢true t)
+      -- else the reader stays
+      pub pass_same : is_some own ≡ false → Passed k a xs (n + 1) at after
+      unfolding place_after
+      pass_same t = let z : is_some (own_value row (n + 1)) ≡ false = ap is_some (sym eo) ∙ t in rw z at passed
 
--- the reader moves past a record's own row, which stands there whole, and stays else
-module _ (w at id : ℕ) (row : Row) where
-  pub place_own : is_own row id ≡ true → at + w ≡ place_after w row id at
-  unfolding place_after
-  place_own t = rw t refl
+  pub pass_done : n ≤ m → m ≤ n → (b : Bool) → is_some row ≡ not b → b ≡ sound k a
+  unfolding count
+  pass_done l h b eb = none_is row b eb ∙ ap is_none er ∙ sym (pass_ends k a xs n at e g (omega arith) w)
 
-  pub place_same : is_own row id ≡ false → at ≡ place_after w row id at
-  unfolding place_after
-  place_same t = rw t refl
-
-  pub own_inside : (xs : Bytes) → row ≡ row_at w xs at → is_own row id ≡ true → at + w ≤ length xs
-  unfolding is_own
-  own_inside xs e t = go (dec_le (at + w) (length xs))
-    where
-      go : Dec (at + w ≤ length xs) → at + w ≤ length xs
-      go (yes h) = h
-      go (no h) = absurd (false≢true (ap (λ (x : Row). is_own x id) (sym (e ∙ row_none w xs at (omega arith))) ∙ t))
-
--- what it is lent of areas that can be audited
-pub judged : (k : Kind) (s r c : Bytes) (end m : ℕ) (b : Bool) → Auditable k (areas s r c) → end ≡ counted r → end ≤ length r → m ≡ fill 2 s → Judges k s (take end r) c m b → b ≡ sound k (areas s r c)
-judged k s r c end m b g e h em j = j r (record { auditable = g; is_published = ap (λ (i : ℕ). take i r) e; inside = omega arith; is_count = em })
+-- a record's own row stands there whole
+pub own_inside : (w : ℕ) (xs : Bytes) (at id : ℕ) (row : Option Row) → row ≡ row_at w xs at → (own : Option Value) → own ≡ own_value row id → is_some own ≡ true → at + w ≤ length xs
+unfolding own_value
+own_inside w xs at id row er own eo t = go (dec_le (at + w) (length xs))
+  where
+    go : Dec (at + w ≤ length xs) → at + w ≤ length xs
+    go (yes h) = h
+    go (no h) = absurd (false≢true (ap (λ (x : Option Row). is_some (own_value x id)) (sym (er ∙ row_none w xs at (omega arith))) ∙ ap is_some (sym eo) ∙ t))

@@ -11,17 +11,3 @@ pub struct Ends {
     pub body: u64,
     pub span: u64,
 }
-
-// A sum below 2^64, or that it would pass that.
-#[derive(Clone, Copy)]
-pub enum Sum {
-    Below(u64),
-    Past,
-}
-
-// The ends after so many records, or that the index is not sound.
-#[derive(Clone, Copy)]
-pub enum Step {
-    Next(Ends),
-    Unsound,
-}

@@ -1,141 +1,84 @@
 // One record of the audit's pass: its row, its value, the ends after it, and its checkpoint.
-// The reader and the row at its place are carried along, so each row is read once.
+// What makes the index unsound gives nothing.
 ghost use Rattle.std.specs.Prelude.{◌≡◌, [], ◌∷◌, ◌^◌, ◌<◌};
-ghost use Rattle.loc_leaf.specs.Kind.{row_width};
 ghost use Rattle.loc_leaf.specs.Slot.{slot_at};
 ghost use Rattle.loc_calls.specs.Audit.{byte_fits, row_fits, row_wanted};
-ghost use Rattle.loc_audit.specs.Pass.{own_row, is_own, slot_says, end_after, added, record_step, checkpoint_is, checkpoint_holds, ends_after, audit_step, begin, goes_on, is_sound, Judges};
+ghost use Rattle.loc_audit.specs.Pass.{own_value, slot_says, end_after, added, checkpoint_is, checkpoint_holds, ends_after};
 
-use crate::{Ends, Step, Sum};
-use loc_leaf::delta_loc::{LOC_WINDOW, Lookup, inline_value, needs_row, slot_at};
+use crate::Ends;
+use loc_calls::Areas;
+use loc_leaf::delta_loc::{LOC_WINDOW, inline_value, needs_row, slot_at};
 use loc_leaf::file::{FILE_HEADER_LEN, u64_at};
 use loc_leaf::{Kind, Value};
-use loc_rows::{Row, here, is_end, onward, reader};
+use loc_rows::Row;
 
 // What the row at the reader's place says, if it is the row of record id.
-fn own_row(row: Row, id: u64) -> Lookup
-    ensures { result ≡ own_row row id }
+#[tactic(auto, unfolding(crate::specs::Pass::own_value))]
+pub fn own_value(row: Option<Row>, id: u64) -> Option<Value>
+    ensures { result ≡ own_value row id }
 {
-    match row {
-        Row::At {
-            number,
-            strides,
-            spans,
-        } => {
-            if number == id {
-                return Lookup::Found(Value { strides, spans });
-            }
-            Lookup::Missing
-        }
-        Row::End => Lookup::Missing,
-    }
-}
-
-// Whether the row at the reader's place is that of record id.
-fn is_own(row: Row, id: u64) -> bool
-    ensures { result ≡ is_own row id }
-{
-    match row {
-        Row::At {
-            number,
-            strides: _,
-            spans: _,
-        } => number == id,
-        Row::End => false,
-    }
+    let row = row?;
+    (row.number == id).then_some(Value {
+        strides: row.strides,
+        spans: row.spans,
+    })
 }
 
 // Whether a slot byte fits its value in the row: 0 with 256 or more, or the value itself.
 fn byte_fits(b: u8, v: u32) -> bool
     ensures { result ≡ byte_fits b v }
 {
-    if b == 0 {
-        return 256 <= v;
-    }
-    b as u32 == v
+    if b == 0 { 256 <= v } else { u32::from(b) == v }
 }
 
 // Whether a slot that needs a row fits what the row says.
+#[tactic(auto, unfolding(loc_calls::specs::Audit::row_fits))]
 fn row_fits(kind: Kind, low: u8, high: u8, v: Value) -> bool
     ensures { result ≡ row_fits kind (low ∷ high ∷ []) v }
 {
     match kind {
-        Kind::Paired => {
-            if byte_fits(low, v.strides) {
-                return byte_fits(high, v.spans);
-            }
-            false
-        }
+        Kind::Paired => byte_fits(low, v.strides) && byte_fits(high, v.spans),
         Kind::Single => 65536 <= v.strides,
     }
 }
 
 // Whether a slot needs a row, and this one.
+#[tactic(auto, unfolding(loc_calls::specs::Audit::row_wanted))]
 fn row_wanted(kind: Kind, low: u8, high: u8, v: Value) -> bool
     ensures { result ≡ row_wanted kind (low ∷ high ∷ []) v }
 {
-    if needs_row(kind, low, high) {
-        return row_fits(kind, low, high, v);
-    }
-    false
+    needs_row(kind, low, high) && row_fits(kind, low, high, v)
 }
 
 // What slot and row say of record id, where this is what its row says: nothing where a row is not wanted, or lacking.
-fn slot_says(kind: Kind, slots: &[u8], id: u64, own: Lookup) -> Lookup
+fn slot_says(kind: Kind, slots: &[u8], id: u64, own: Option<Value>) -> Option<Value>
     ensures { result ≡ slot_says kind (slot_at slots.now id) own }
 {
-    let slot = slot_at(slots, id);
-    let low = slot[0];
-    let high = slot[1];
+    let [low, high] = slot_at(slots, id);
     match own {
-        Lookup::Found(v) => {
-            if row_wanted(kind, low, high, v) {
-                return Lookup::Found(v);
-            }
-            Lookup::Missing
-        }
-        Lookup::Missing => {
-            if needs_row(kind, low, high) {
-                return Lookup::Missing;
-            }
-            Lookup::Found(inline_value(kind, low, high))
-        }
+        Some(v) => row_wanted(kind, low, high, v).then_some(v),
+        None => (!needs_row(kind, low, high)).then_some(inline_value(kind, low, high)),
     }
 }
 
 // An end after so many units of 8 bytes; a sum that would pass 2^64 is not made.
-fn end_after(end: u64, units: u32) -> Sum
+#[tactic(auto, unfolding(crate::specs::Pass::end_after))]
+fn end_after(end: u64, units: u32) -> Option<u64>
     ensures { result ≡ end_after end units }
 {
-    let len = 8 * units as u64;
-    if 0xffff_ffff_ffff_ffff - end < len {
-        return Sum::Past;
-    }
-    Sum::Below(end + len)
+    end.checked_add(8 * u64::from(units))
 }
 
-// The ends after a record of this value.
-fn add(e: Ends, v: Value) -> Step
-    ensures { result ≡ added e v }
-{
-    let Sum::Below(body) = end_after(e.body, v.strides) else {
-        return Step::Unsound;
-    };
-    let Sum::Below(span) = end_after(e.span, v.spans) else {
-        return Step::Unsound;
-    };
-    Step::Next(Ends { body, span })
-}
-
-// The ends after record id.
-fn record_step(kind: Kind, slots: &[u8], id: u64, row: Row, e: Ends) -> Step
-    ensures { result ≡ record_step kind slots.now id row e }
-{
-    let own = own_row(row, id);
-    let found = slot_says(kind, slots, id, own);
-    match found {
-        Lookup::Found(v) => add(e, v),
-        Lookup::Missing => Step::Unsound,
+impl Ends {
+    // The ends after a record of this value.
+    #[tactic(auto, unfolding(crate::specs::Pass::end_after, crate::specs::Pass::added))]
+    fn after(self, v: Value) -> Option<Ends>
+        ensures { result ≡ added self v }
+    {
+        Some(Ends {
+            body: end_after(self.body, v.strides)?,
+            span: end_after(self.span, v.spans)?,
+        })
     }
 }
 
@@ -148,104 +91,28 @@ fn checkpoint_is(kind: Kind, checkpoints: &[u8], w: u64, e: Ends) -> bool
     match kind {
         Kind::Paired => {
             let at = FILE_HEADER_LEN + 16 * before;
-            if u64_at(checkpoints, at) == e.body {
-                return u64_at(checkpoints, at + 8) == e.span;
-            }
-            false
+            u64_at(checkpoints, at) == e.body && u64_at(checkpoints, at + 8) == e.span
         }
         Kind::Single => u64_at(checkpoints, FILE_HEADER_LEN + 8 * before) == e.body,
     }
 }
 
 // Whether the checkpoint after record id, if one stands there, says these ends.
+#[tactic(auto, unfolding(crate::specs::Pass::checkpoint_holds))]
 fn checkpoint_holds(kind: Kind, checkpoints: &[u8], id: u64, e: Ends) -> bool
     requires { 0 < id }
     ensures { result ≡ checkpoint_holds kind checkpoints.now id e }
 {
-    if id % LOC_WINDOW != 0 {
-        return true;
-    }
-    checkpoint_is(kind, checkpoints, id / LOC_WINDOW, e)
+    id % LOC_WINDOW != 0 || checkpoint_is(kind, checkpoints, id / LOC_WINDOW, e)
 }
 
 // The ends after record id, whose checkpoint says them if it has one.
-fn ends_after(kind: Kind, slots: &[u8], checkpoints: &[u8], id: u64, row: Row, e: Ends) -> Step
+#[tactic(auto, unfolding(crate::specs::Pass::ends_after, crate::specs::Pass::tested, crate::specs::Pass::record_step, crate::specs::Pass::valued))]
+pub fn ends_after(kind: Kind, a: Areas, id: u64, own: Option<Value>, e: Ends) -> Option<Ends>
     requires { 0 < id }
-    ensures { result ≡ ends_after kind slots.now checkpoints.now id row e }
+    ensures { result ≡ ends_after kind a.entry.slots.now a.entry.checkpoints.now id own e }
 {
-    let step = record_step(kind, slots, id, row, e);
-    match step {
-        Step::Next(after) => {
-            if checkpoint_holds(kind, checkpoints, id, after) {
-                return Step::Next(after);
-            }
-            Step::Unsound
-        }
-        Step::Unsound => Step::Unsound,
-    }
-}
-
-// The same after what the records before came to.
-fn audit_step(kind: Kind, slots: &[u8], checkpoints: &[u8], id: u64, row: Row, before: Step) -> Step
-    requires { 0 < id }
-    ensures { result ≡ audit_step kind slots.now checkpoints.now id row before }
-{
-    match before {
-        Step::Next(e) => ends_after(kind, slots, checkpoints, id, row, e),
-        Step::Unsound => Step::Unsound,
-    }
-}
-
-// Before the first record.
-fn begun() -> Step
-    ensures { result ≡ begin }
-{
-    Step::Next(Ends { body: 16, span: 16 })
-}
-
-// Whether there is a record to look at after n of them.
-fn goes_on(step: Step, n: u64, count: u64) -> bool
-    ensures { result ≡ goes_on step n count }
-{
-    match step {
-        Step::Next(_) => n < count,
-        Step::Unsound => false,
-    }
-}
-
-// Whether the records were sound, and no row is left.
-fn is_sound(step: Step, row: Row) -> bool
-    ensures { result ≡ is_sound step row }
-{
-    match step {
-        Step::Next(_) => is_end(row),
-        Step::Unsound => false,
-    }
-}
-
-// Whether an index of so many records is sound. The reader goes along: it stands at the first row numbered above the record before.
-pub fn pass(
-    kind: Kind,
-    slots: &[u8],
-    rows: &[u8],
-    checkpoints: &[u8],
-    count: u64,
-    width: usize,
-) -> bool
-    requires { width ≡ row_width kind }
-    ensures { Judges kind slots.now rows.now checkpoints.now count result }
-{
-    let mut r = reader(rows, FILE_HEADER_LEN);
-    let mut row = here(r, width);
-    let mut step = begun();
-    let mut n: u64 = 0;
-    while goes_on(step, n, count) {
-        n += 1;
-        step = audit_step(kind, slots, checkpoints, n, row, step);
-        if is_own(row, n) {
-            r = onward(r, width);
-            row = here(r, width);
-        }
-    }
-    is_sound(step, row)
+    let v = slot_says(kind, a.slots, id, own)?;
+    let after = e.after(v)?;
+    checkpoint_holds(kind, a.checkpoints, id, after).then_some(after)
 }

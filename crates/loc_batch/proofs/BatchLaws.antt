@@ -1,55 +1,29 @@
 -- A batch record by record: its entries by place, its first refusal, and how many rows it stages.
 -- Laws in the form in which the code meets them.
-use Prim.Native.Nat.{ℕ, suc, ◌+◌, ◌-◌, ◌/◌, ◌^◌, ◌≤◌, ◌<◌}
+use Prim.Native.Nat.{ℕ, zero, suc, ◌+◌, ◌-◌, ◌/◌, ◌^◌, ◌≤◌, ◌<◌}
 use mathlib.Core.Path.{◌≡◌, refl, sym, ap, ◌∙◌}
-use mathlib.Core.Bool.{Bool, true, false, cond, not}
+use mathlib.Core.Bool.{Bool, true, false, cond}
+use Rattle.std.specs.Prelude.{Ok, Err}
 use mathlib.Core.List.{List, [], ◌∷◌, ◌++◌}
 use native.Mathlib.Nat.{add-zero, zero-add, add_assoc, sub-zero}
 use native.Mathlib.Omega.{arith}
-use lib.Dec.{eqb}
+use mir.Val.{bool_byte}
 use lib.ListN.{length, length-append}
-use borrow.Author.Tests.{eq-eqb, ne_eqb, eqb-false}
+use borrow.Author.Tests.{eqb-false}
 use Rattle.loc_leaf.specs.declared.Kind.{Kind}
 use Rattle.loc_leaf.specs.declared.Kind.TheVariants.{Paired, Single}
 use Rattle.loc_leaf.specs.declared.Value.{Value}
-use Rattle.loc_leaf.specs.Answers.{◌or_else◌}
+use Rattle.loc_leaf.specs.declared.refusal.Refusal.{Refusal}
+use Rattle.loc_leaf.specs.Answers.{◌or_else◌, number_of}
 use Rattle.loc_leaf.specs.Slot.{slot, stored_as_zero, needs_row}
 use Rattle.loc_leaf.specs.Rows.{row}
-use Rattle.loc_calls.specs.Table.{Entry, Batch, value_of, uneven, spanless, breaks, entry_refusal, entries_refusal}
+use Rattle.loc_calls.specs.Table.{Entry, value_of, spanless, breaks, entry_refusal, entries_refusal}
 use Rattle.loc_calls.specs.Stores.{gather, row_of}
 use Rattle.loc_leaf.proofs.SlotLaws.{WholeStrides}
 use Rattle.loc_leaf.proofs.ValueLaws.{SpansFit, needs_row_lem}
-use Rattle.loc_leaf.proofs.Refusals.{or_else_first, or_else_zero}
+use Rattle.loc_leaf.proofs.Refusals.{or_else_first, or_else_zero, number_some}
 use Rattle.loc_calls.proofs.Batches.{some_spans, whole_strides}
 use Rattle.loc_batch.specs.Lists.{listed, Sound, rows_of, row_total, Tested}
-
--- ---- the lists' lengths
-
-module _ (k : Kind) (b : Batch) where
-  pub uneven_starts : (length b.starts ≡ length b.lens → ⊥) → false ≡ not (uneven k b)
-  unfolding uneven
-  uneven_starts h = go k
-    where
-      go : (j : Kind) → false ≡ not (uneven j b)
-      go Paired = rw (ne_eqb (length b.starts) (length b.lens) h) refl
-      go Single = rw (ne_eqb (length b.starts) (length b.lens) h) refl
-
-  module _ (h : length b.starts ≡ length b.lens) where
-    pub uneven_spans : k ≡ Paired → (length b.span_starts ≡ length b.lens → ⊥) → false ≡ not (uneven k b)
-    unfolding uneven
-    uneven_spans e g = rw (e, eq-eqb (length b.starts) (length b.lens) h, ne_eqb (length b.span_starts) (length b.lens) g) refl
-
-    pub even_paired : k ≡ Paired → length b.span_starts ≡ length b.lens → eqb (length b.span_counts) (length b.lens) ≡ not (uneven k b)
-    unfolding uneven
-    even_paired e g = rw (e, eq-eqb (length b.starts) (length b.lens) h, eq-eqb (length b.span_starts) (length b.lens) g) (twice (eqb (length b.span_counts) (length b.lens)))
-      where
-        twice : (t : Bool) → t ≡ not (not t)
-        twice true = refl
-        twice false = refl
-
-    pub even_single : k ≡ Single → true ≡ not (uneven k b)
-    unfolding uneven
-    even_single e = rw (e, eq-eqb (length b.starts) (length b.lens) h) refl
 
 -- ---- rows
 
@@ -63,15 +37,20 @@ module _ (k : Kind) (e : Entry) (s : Sound k e) (h : e.spans < 2 ^ 32) (v : Valu
   pub needed : b ≡ needs_row k (slot k (value_of e))
   needed = eb ∙ rw ev (sym (needs_zero k e s h))
 
-  pub rows_one : b ≡ true → 1 ≡ rows_of k e
+  pub rows_is : (n : ℕ) → n ≡ bool_byte b → (n ≡ rows_of k e) × (n ≤ 1)
   unfolding rows_of
-  rows_one t = rw (← needed, t) refl
-
-  pub rows_none : b ≡ false → 0 ≡ rows_of k e
-  unfolding rows_of
-  rows_none t = rw (← needed, t) refl
+  rows_is n q = rw (q, ← needed) (go b)
+    where
+      go : (c : Bool) → (bool_byte c ≡ cond c 1 0) × (bool_byte c ≤ 1)
+      go true = (refl, omega arith)
+      go false = (refl, omega arith)
 
 -- ---- one record after the other
+
+pub length_listed : (f : ℕ → Entry) (i n : ℕ) → length (listed f i n) ≡ n
+unfolding listed
+length_listed f i zero = refl
+length_listed f i (suc n) = ap suc (length_listed f (i + 1) n)
 
 pub listed_next : (f : ℕ → Entry) (i n : ℕ) → i < n → listed f i (n - i) ≡ f i ∷ listed f (i + 1) (n - (i + 1))
 unfolding listed
@@ -86,15 +65,13 @@ one_next : (k : Kind) (e d : Entry) (ds : List Entry) → entry_refusal k e (d �
 unfolding entry_refusal breaks
 one_next k e d ds = refl
 
-pub left_sound : (k : Kind) (e : Entry) (ds : List Entry) (number : ℕ) → number ≡ entry_refusal k e ds → number ≡ 0 → Sound k e
-left_sound k e ds number q z =
-    let t : WholeStrides e.len = whole_strides k e ds (sym q ∙ z) in
-    record { some = t.1; fits = t.2; spanned = some_spans k e ds (sym q ∙ z) }
+pub left_sound : (k : Kind) (e : Entry) (ds : List Entry) → 0 ≡ entry_refusal k e ds → Sound k e
+left_sound k e ds z =
+    let t : WholeStrides e.len = whole_strides k e ds (sym z) in
+    record { some = t.1; fits = t.2; spanned = some_spans k e ds (sym z) }
 
 -- the records before the one at hand are passed, with so many rows; i is the next record's place
 pub record Passed (k : Kind) (f : ℕ → Entry) (n : ℕ) (e : Entry) (rows i : ℕ) : Type 0 where
-  pub some : 1 ≤ i
-  pub inside : i ≤ n
   pub few : rows < i
   pub refusal : entries_refusal k (listed f 0 n) ≡ entries_refusal k (e ∷ listed f i (n - i))
   pub total : row_total k (listed f 0 n) ≡ rows + row_total k (e ∷ listed f i (n - i))
@@ -110,8 +87,6 @@ rows_le k e = go (needs_row k (slot k (value_of e)))
 module _ (k : Kind) (f : ℕ → Entry) (n : ℕ) where
   pub passed_begin : (e : Entry) → 0 < n → e ≡ f 0 → Passed k f n e 0 1
   passed_begin e h q = record {
-    some = omega arith;
-    inside = omega arith;
     few = omega arith;
     refusal = ap (entries_refusal k) first;
     total = ap (row_total k) first ∙ sym (zero-add (row_total k (e ∷ listed f 1 (n - 1))));
@@ -121,40 +96,38 @@ module _ (k : Kind) (f : ℕ → Entry) (n : ℕ) where
       first = ap (listed f 0) (sym (sub-zero n)) ∙ listed_next f 0 n h ∙ ap (λ (d : Entry). d ∷ listed f 1 (n - 1)) (sym q)
 
   module _ (e : Entry) (rows i : ℕ) (p : Passed k f n e rows i) where
-    module _ (h : i < n) (d : Entry) (ed : d ≡ f i) (number : ℕ) (q : number ≡ entry_refusal k e (d ∷ [])) where
+    module _ (h : i < n) (d : Entry) (ed : d ≡ f i) where
       next : listed f i (n - i) ≡ d ∷ listed f (i + 1) (n - (i + 1))
       next = listed_next f i n h ∙ ap (λ (c : Entry). c ∷ listed f (i + 1) (n - (i + 1))) (sym ed)
 
-      both : entries_refusal k (listed f 0 n) ≡ number or_else entries_refusal k (d ∷ listed f (i + 1) (n - (i + 1)))
+      both : (number : ℕ) → number ≡ entry_refusal k e (d ∷ []) → entries_refusal k (listed f 0 n) ≡ number or_else entries_refusal k (d ∷ listed f (i + 1) (n - (i + 1)))
       unfolding entries_refusal
-      both = p.refusal ∙ rw next (rw (one_next k e d (listed f (i + 1) (n - (i + 1))), ← q) refl)
+      both number q = p.refusal ∙ rw next (rw (one_next k e d (listed f (i + 1) (n - (i + 1))), ← q) refl)
 
-      pub passed_turn : number ≡ 0 → (r : ℕ) → r ≡ rows_of k e → Passed k f n d (rows + r) (i + 1)
+      pub passed_turn : 0 ≡ entry_refusal k e (d ∷ []) → (r : ℕ) → r ≡ rows_of k e → Passed k f n d (rows + r) (i + 1)
       unfolding row_total
       passed_turn z r er = record {
-        some = omega arith;
-        inside = omega arith;
         few = omega (arith, p.few, rows_le k e);
-        refusal = both ∙ rw z refl;
+        refusal = both 0 z;
         total = p.total ∙ rw (next, ← er) (sym (add_assoc rows r (row_total k (d ∷ listed f (i + 1) (n - (i + 1))))));
       }
 
-      pub passed_refused : (number ≡ 0 → ⊥) → Tested k (listed f 0 n) number 0
-      passed_refused z = record { refused = sym (both ∙ or_else_first number _ z); total = λ e. absurd (z e) }
+      pub passed_refused : (r : Refusal) → number_of r ≡ entry_refusal k e (d ∷ []) → Tested k (listed f 0 n) (Err r)
+      passed_refused r q = record { refused = sym (both (number_of r) q ∙ or_else_first (number_of r) _ (number_some r)); total = tt }
 
-    module _ (h : n ≤ i) (number : ℕ) (q : number ≡ entry_refusal k e []) where
-      last : entries_refusal k (listed f 0 n) ≡ number
+    module _ (h : n ≤ i) where
+      last : (number : ℕ) → number ≡ entry_refusal k e [] → entries_refusal k (listed f 0 n) ≡ number
       unfolding entries_refusal
-      last = p.refusal ∙ rw (listed_end f i n h) (rw (← q) (or_else_zero number))
+      last number q = p.refusal ∙ rw (listed_end f i n h) (rw (← q) (or_else_zero number))
 
-      pub last_refused : (number ≡ 0 → ⊥) → Tested k (listed f 0 n) number 0
-      last_refused z = record { refused = sym last; total = λ e. absurd (z e) }
+      pub last_refused : (r : Refusal) → number_of r ≡ entry_refusal k e [] → Tested k (listed f 0 n) (Err r)
+      last_refused r q = record { refused = sym (last (number_of r) q); total = tt }
 
-      pub last_passed : number ≡ 0 → (r : ℕ) → r ≡ rows_of k e → Tested k (listed f 0 n) 0 (rows + r)
+      pub last_passed : 0 ≡ entry_refusal k e [] → (r : ℕ) → r ≡ rows_of k e → Tested k (listed f 0 n) (Ok (rows + r))
       unfolding row_total
       last_passed z r er = record {
-        refused = sym (last ∙ z);
-        total = λ _. sym (p.total ∙ rw (listed_end f i n h, ← er, add-zero r) refl);
+        refused = sym (last 0 z);
+        total = sym (p.total ∙ rw (listed_end f i n h, ← er, add-zero r) refl);
       }
 
 -- the rows that are staged are so many

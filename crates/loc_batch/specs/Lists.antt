@@ -1,11 +1,15 @@
 -- A batch as four lent lists, record by record, and the areas as three lent slices.
 -- A list that ends early counts as 0 from there on; number 7 refuses it before that matters.
-use Rattle.std.specs.Prelude.{ℕ, zero, suc, ◌+◌, ◌/◌, ◌^◌, ◌≤◌, ◌<◌, ◌≡◌, false, cond, length, get_or}
+use Rattle.std.specs.Prelude.{ℕ, zero, suc, ◌+◌, ◌-◌, ◌/◌, ◌^◌, ◌≤◌, ◌<◌, ◌≡◌, false, cond, length, get_or, Result, IfOk}
 use mathlib.Core.List.{List, [], ◌∷◌, flatten}
 use Rattle.loc_leaf.specs.declared.Kind.{Kind}
 use Rattle.loc_leaf.specs.declared.Kind.TheVariants.{Paired, Single}
+use Rattle.loc_leaf.specs.declared.refusal.Refusal.{Refusal}
+use Rattle.loc_leaf.specs.Answers.{refusal_of}
 use Rattle.loc_leaf.specs.Bytes.{Bytes, store}
+use Rattle.loc_leaf.specs.Area.{counted}
 use Rattle.loc_leaf.specs.Slot.{slot, needs_row}
+use Rattle.loc_calls.specs.Areas.{Areas, Three}
 use Rattle.loc_calls.specs.Stores.{gather, slot_of, row_of, checkpoint_of}
 use Rattle.loc_calls.specs.Table.{Batch, Entry, value_of, uneven, spanless, entries_refusal}
 use Rattle.loc_batch.specs.declared.Record.{Record}
@@ -29,6 +33,10 @@ unfoldable pub listed : (ℕ → Entry) → ℕ → ℕ → List Entry
 listed f i zero = []
 listed f i (suc n) = f i ∷ listed f (i + 1) n
 
+-- the records of a batch, as many as it has lengths
+abbrev pub batched : Kind → Batch → List Entry
+batched k b = listed (entry_at k b) 0 (length b.lens)
+
 -- what 8, 22, 9 and 10 leave of a record
 pub record Sound (k : Kind) (e : Entry) : Type 0 where
   pub some : 0 < e.len / 8
@@ -43,26 +51,30 @@ unfoldable pub row_total : Kind → List Entry → ℕ
 row_total k [] = 0
 row_total k (e ∷ es) = rows_of k e + row_total k es
 
--- what a pass over the records of a batch finds: the first refusal and, where there is none, how many rows they stage
-pub record Tested (k : Kind) (es : List Entry) (number rows : ℕ) : Type 0 where
-  pub refused : number ≡ entries_refusal k es
-  pub total : number ≡ 0 → rows ≡ row_total k es
+-- what a pass over the records of a batch finds: the first refusal or, where there is none, how many rows they stage
+pub record Tested (k : Kind) (es : List Entry) (found : Result ℕ Refusal) : Type 0 where
+  pub refused : refusal_of found ≡ entries_refusal k es
+  pub total : IfOk found (λ rows. rows ≡ row_total k es)
 
 -- the pieces bs are stored at a place, and the next place is past them
 pub record Written (before : Bytes) (at : ℕ) (bs : List Bytes) (after : Bytes) (next : ℕ) : Type 0 where
   pub stored : after ≡ store at (flatten bs) before
   pub past : next ≡ at + length (flatten bs)
 
--- the records es of an accepted batch have room: in parts of these lengths, and in the numbers after base
-pub record Room (k : Kind) (base n : ℕ) (es : List Entry) (slots rows checkpoints : ℕ) : Type 0 where
+-- how many bytes lie past an area's published end
+abbrev pub left : Bytes → ℕ
+left xs = length xs - counted xs
+
+-- the records es of an accepted batch have room: in parts of these sizes, and in the numbers after base
+pub record Room (k : Kind) (base : ℕ) (es : List Entry) (size : Three ℕ) : Type 0 where
   pub accepted : entries_refusal k es ≡ 0
-  pub in_slots : length (flatten (gather (slot_of k) base es)) ≤ slots
-  pub in_rows : length (flatten (gather (row_of k) base es)) ≤ rows
-  pub in_checkpoints : length (flatten (gather (checkpoint_of k) base es)) ≤ checkpoints
-  pub in_numbers : base + n < 2 ^ 64
+  pub in_slots : length (flatten (gather (slot_of k) base es)) ≤ size.slots
+  pub in_rows : length (flatten (gather (row_of k) base es)) ≤ size.rows
+  pub in_checkpoints : length (flatten (gather (checkpoint_of k) base es)) ≤ size.checkpoints
+  pub in_numbers : base + length es < 2 ^ 64
 
 -- the three parts begin with what the records stage
-pub record Staged (k : Kind) (base : ℕ) (es : List Entry) (slots rows checkpoints slots' rows' checkpoints' : Bytes) : Type 0 where
-  pub is_slots : slots' ≡ store 0 (flatten (gather (slot_of k) base es)) slots
-  pub is_rows : rows' ≡ store 0 (flatten (gather (row_of k) base es)) rows
-  pub is_checkpoints : checkpoints' ≡ store 0 (flatten (gather (checkpoint_of k) base es)) checkpoints
+pub record Staged (k : Kind) (base : ℕ) (es : List Entry) (a a' : Areas) : Type 0 where
+  pub is_slots : a'.slots ≡ store 0 (flatten (gather (slot_of k) base es)) a.slots
+  pub is_rows : a'.rows ≡ store 0 (flatten (gather (row_of k) base es)) a.rows
+  pub is_checkpoints : a'.checkpoints ≡ store 0 (flatten (gather (checkpoint_of k) base es)) a.checkpoints

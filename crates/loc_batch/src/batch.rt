@@ -1,89 +1,51 @@
 // A batch's refusals 7 to 12 and 22, and how many rows it stages.
 // One pass over the records decides both.
-ghost use Rattle.std.specs.Prelude.{◌≡◌, not, ◌≤◌, ◌<◌};
-ghost use Rattle.loc_calls.specs.Table.{batch, uneven};
-ghost use Rattle.loc_batch.specs.Lists.{entry_at, as_entry, listed, rows_of, Held, Sound, Tested};
+ghost use Rattle.std.specs.Prelude.{◌≡◌, not, ◌≤◌, ◌<◌, length};
+ghost use Rattle.loc_calls.specs.Lent.{lists};
+ghost use Rattle.loc_calls.specs.Table.{uneven};
+ghost use Rattle.loc_batch.specs.Lists.{as_entry, batched, rows_of, Held, Sound, Tested};
 
 use crate::Record;
-use crate::entry::{is_stored_as_zero, own_number, record_at, record_number, value_of};
+use crate::entry::{is_stored_as_zero, record_at};
+use loc_calls::Batch;
 use loc_leaf::Kind;
-use loc_leaf::refusal::ACCEPTED;
+use loc_leaf::refusal::Refusal;
 
 // Whether the lists of a batch have one length.
-pub fn lists_agree(
-    kind: Kind,
-    starts: &[u64],
-    lens: &[u64],
-    span_starts: &[u64],
-    span_counts: &[u32],
-) -> bool
-    ensures { result ≡ not (uneven kind (batch starts.now lens.now span_starts.now span_counts.now)) }
+#[tactic(auto, unfolding(loc_calls::specs::Table::uneven))]
+pub fn lists_agree(kind: Kind, b: Batch) -> bool
+    ensures { result ≡ not (uneven kind (lists b.entry)) }
 {
-    let n = lens.len();
-    if starts.len() != n {
-        return false;
-    }
+    let n = b.lens.len();
     match kind {
-        Kind::Paired => {
-            if span_starts.len() != n {
-                return false;
-            }
-            span_counts.len() == n
-        }
-        Kind::Single => true,
+        Kind::Paired => b.starts.len() == n && b.span_starts.len() == n && b.span_counts.len() == n,
+        Kind::Single => b.starts.len() == n,
     }
 }
 
 // 1 for a record that stages a row, 0 for one that does not.
+#[tactic(auto, using(crate::proofs::BatchLaws::rows_is), unfolding(crate::specs::Lists::as_entry))]
 pub fn rows_of(kind: Kind, e: Record) -> usize
     requires { Sound kind (as_entry e) }
     ensures { (result ≡ rows_of kind (as_entry e)) × (result ≤ 1) }
 {
-    if is_stored_as_zero(kind, value_of(e)) {
-        return 1;
-    }
-    0
+    usize::from(is_stored_as_zero(kind, e.value()))
 }
 
-// The first refusal of a record, and how many rows the records stage where there is none.
-#[derive(Clone, Copy)]
-pub struct CheckedBatch {
-    pub number: u64,
-    pub rows: usize,
-}
-
-pub fn check_batch(
-    kind: Kind,
-    starts: &[u64],
-    lens: &[u64],
-    span_starts: &[u64],
-    span_counts: &[u32],
-    n: usize,
-) -> CheckedBatch
-    requires n_nonzero { 0 < n }
-    requires held { Held kind (batch starts.now lens.now span_starts.now span_counts.now) n }
-    ensures { Tested kind (listed (entry_at kind (batch starts.now lens.now span_starts.now span_counts.now)) 0 n) result.number result.rows }
+// The first refusal of a record, or how many rows the records stage.
+pub fn check_batch(kind: Kind, b: Batch) -> Result<usize, Refusal>
+    requires some { 0 < length b.lens.now }
+    requires holds { Held kind (lists b) (length b.lens.now) }
+    ensures { Tested kind (batched kind (lists b.entry)) result }
 {
-    let mut e = record_at(kind, starts, lens, span_starts, span_counts, 0);
-    let mut rows: usize = 0;
-    let mut i: usize = 1;
-    while i < n {
-        let next = record_at(kind, starts, lens, span_starts, span_counts, i);
-        let number = record_number(kind, e, next);
-        if number != ACCEPTED {
-            return CheckedBatch { number, rows: 0 };
-        }
+    let mut e = record_at(kind, b, 0);
+    let mut rows = 0;
+    for i in 1..b.lens.len() {
+        let next = record_at(kind, b, i);
+        e.check_before(kind, next)?;
         rows += rows_of(kind, e);
         e = next;
-        i += 1;
     }
-    let number = own_number(kind, e);
-    if number != ACCEPTED {
-        return CheckedBatch { number, rows: 0 };
-    }
-    rows += rows_of(kind, e);
-    CheckedBatch {
-        number: ACCEPTED,
-        rows,
-    }
+    e.check_alone(kind)?;
+    Ok(rows + rows_of(kind, e))
 }

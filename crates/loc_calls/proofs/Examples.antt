@@ -7,22 +7,20 @@ use mathlib.Core.List.{List, [], ◌∷◌, ◌++◌, map, flatten}
 use lib.ListN.{length, replicate}
 use Rattle.loc_leaf.specs.declared.Kind.{Kind}
 use Rattle.loc_leaf.specs.declared.Kind.TheVariants.{Paired, Single}
-use Rattle.loc_leaf.specs.declared.Answer.{Answer}
 use Rattle.loc_leaf.specs.Bytes.{Bytes, number, bytes, number_at, store}
-use Rattle.loc_leaf.specs.Answers.{answer}
+use Rattle.loc_leaf.specs.Answers.{answer, Answer}
 use Rattle.loc_leaf.specs.Area.{counted, store_length, store_past, pieces, fill, published}
 use Rattle.loc_leaf.specs.Kind.{row_width}
 use Rattle.loc_leaf.specs.Slot.{strides_refusal, slot, needs_row, inline, slot_at, checkpoint_rule}
 use Rattle.loc_leaf.specs.Rows.{row, row_number, row_value, row_list, ascending, last_number, rows_up_to, row_for, has_row, lookup, slot_value, value_in}
 use Rattle.loc_leaf.specs.Cut.{matches, cuts, cut_for}
-use Rattle.loc_calls.specs.declared.SpanAt.{SpanAt}
 use Rattle.loc_calls.specs.Areas.{Three, each, Areas, sizes, count}
 use Rattle.loc_calls.specs.Table.{value_of, body_after, span_after, Call, opening, append, truncate, read, zipped, entries, uneven, spanless, breaks, entry_refusal, entries_refusal, start_refusal, end_past, batch_refusal, table}
 use Rattle.loc_calls.specs.Stores.{step, run, differing, truncate_places, next_row, holds_next, cut_rule, ruled_count, ruled, open_places, ragged, open_refusal, stores, any_stores, settled, checkpoint, gather, row_of, checkpoint_of, staged, new_end, new_ends, append_places}
 use Rattle.loc_calls.specs.Reading.{sum_after, all_after, first_after, lookup_at, has, value_at, strides_after, spans_after, checkpoint_at, window_end, looked_at, within, row_missing, any_missing, words, words_for, answered, found, body_read, span_read, end_read}
 use Rattle.loc_calls.specs.Audit.{body_end_after, span_end_after, checkpoint_sound, row_fits, row_wanted, row_sound, rows_sound, sound}
 use Rattle.loc_calls.specs.Calls.{unless_refused, too_small, whole_refusal, unread, is_opening, refusal, places, place_count, value, lent, buffer, areas_after, call, create_places, create, audit}
-use Rattle.loc_calls.specs.SpanAt.{holds, refused_by, crossing, span_among, span_at}
+use Rattle.loc_calls.specs.SpanAt.{Crossing, holds, refused_by, crossing, span_among, span_at}
 use Rattle.loc_calls.specs.Parts.{some_below, those_below, reaches, needed, strange, comes_before, misplaced, first_fault, pairs_refusal, parts_table, written, parts_refusal, parts}
 use Rattle.loc_calls.specs.Withheld.{on_edge, limited, rows_before, cut_at, withheld_limit, withheld}
 use Rattle.loc_calls.specs.Compare.{Rec, list_order, record_at, records_after, records_in, compare_refusal, compare}
@@ -110,7 +108,7 @@ wide = three (area 2068 (replicate 2052 5)) (area 16 []) (area 32 (bytes 8 (16 +
 abbrev high : Areas
 high = three (area 2066 (replicate 2048 5 ++ (2 ∷ 2 ∷ []))) (area 16 []) (area 32 (bytes 8 (16 + 1024 * 40) ++ bytes 8 (2 ^ 64 - 9)))
 
-abbrev located : ℕ → ℕ → ℕ → SpanAt
+abbrev located : ℕ → ℕ → ℕ → Crossing
 located id i m = record { number = 0; «record» = id; index = i; remainder = m }
 
 -- 1,025 records of length 40 with 5 spans; checkpoint 1 says where the last one starts

@@ -10,11 +10,10 @@ use lib.Dec.{leb, ltb}
 use borrow.Author.Tests.{leb-true, ltb-true, le-leb, lt-ltb}
 use Rattle.loc_leaf.specs.declared.Kind.TheVariants.{Paired}
 use Rattle.loc_leaf.proofs.Booleans.{both_left, both_right}
-use Rattle.loc_calls.specs.declared.SpanAt.{SpanAt}
 use Rattle.loc_calls.specs.Areas.{Areas, count}
 use Rattle.loc_calls.specs.Reading.{within, words, first_after, words_for}
 use Rattle.loc_calls.specs.Calls.{unless_refused, whole_refusal}
-use Rattle.loc_calls.specs.SpanAt.{span_start, span_length, span_count, holds, refused_by, crossing, span_among, span_at, Located, SpanAtLocates}
+use Rattle.loc_calls.specs.SpanAt.{Crossing, span_start, span_length, span_count, holds, refused_by, crossing, span_among, span_at, Located, SpanAtLocates}
 use Rattle.loc_calls.proofs.Lowest.{Lowest, lowest}
 
 module _ (f : ℕ → List ℕ) (x : ℕ) where
@@ -66,7 +65,7 @@ pub span_at_locates : SpanAtLocates
 unfolding SpanAtLocates span_at
 span_at_locates a x = go (whole_refusal Paired a)
   where
-    given : ℕ → SpanAt
+    given : ℕ → Crossing
     given n = unless_refused n (span_among (words_for Paired a) (count a) x) (refused_by n)
 
     go : (n : ℕ) → (given n).number ≡ 0 → Located (words_for Paired a) (count a) x (given n)

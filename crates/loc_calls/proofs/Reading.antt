@@ -1,5 +1,6 @@
 -- What a reading finds in areas that hold a good list whole: every row, and the words of each record.
 -- The sums over a window and the checkpoints are sums of the list's lengths.
+use Rattle.std.specs.Prelude.{Some, None}
 use Prim.Native.Nat.{ℕ, zero, suc, ◌+◌, ◌-◌, ◌*◌, ◌/◌, ◌%◌, ◌^◌, ◌≤◌, ◌<◌}
 use mathlib.Core.Path.{◌≡◌, refl, sym, ap, ◌∙◌, subst}
 use mathlib.Core.Logic.{◌⊎◌, inl, inr, ⊎_elim}
@@ -13,7 +14,6 @@ use lib.Seq.{take-take, take-length, length-take-le, take_all, split_at, get_or_
 use borrow.Author.Tests.{eq-eqb, ne_eqb, ltb-true, leb-true}
 use Rattle.loc_leaf.specs.declared.Kind.{Kind}
 use Rattle.loc_leaf.specs.declared.Kind.TheVariants.{Paired, Single}
-use Rattle.loc_leaf.specs.declared.delta_loc.Lookup.TheVariants.{Found, Missing}
 use Rattle.loc_leaf.specs.Bytes.{Bytes, bytes, number_at}
 use Rattle.loc_leaf.specs.Area.{published}
 use Rattle.loc_leaf.specs.Kind.{checkpoint_width}
@@ -65,13 +65,13 @@ has_no_row m [] h = refl
 has_no_row m (x ∷ rs) h = rw (ne_eqb (row_number x) (suc m) (λ z. omega (arith, h.0))) (has_no_row m rs h.1)
 
 -- a record that needs a row has none among those of the records before it
-pub lacks_row : (k : Kind) (es : List Entry) (s : Bytes) → length es < 2 ^ 64 → needs_row k s ≡ true → slot_value k (rows_of k es) (suc (length es)) s ≡ Missing
+pub lacks_row : (k : Kind) (es : List Entry) (s : Bytes) → length es < 2 ^ 64 → needs_row k s ≡ true → slot_value k (rows_of k es) (suc (length es)) s ≡ None
 unfolding slot_value lookup
 lacks_row k es s h t = rw (t, has_no_row (length es) (rows_of k es) (rows_below k 0 (length es) es (omega arith) h)) refl
 
 -- a valid record's slot, with its row among rows of records before and after, says its value
 slot_value_lem : (k : Kind) (m : ℕ) (rs : List Bytes) (e : Entry) (ts : List Bytes) → Valid k (value_of e) → suc m < 2 ^ 64 → Below m rs
-    → slot_value k (rs ++ (row_of k (suc m) e ++ ts)) (suc m) (slot k (value_of e)) ≡ Found (value_of e)
+    → slot_value k (rs ++ (row_of k (suc m) e ++ ts)) (suc m) (slot k (value_of e)) ≡ Some (value_of e)
 unfolding slot_value lookup row_of
 slot_value_lem k m rs e ts v h b = go (is? (stored_as_zero k (value_of e)))
   where
@@ -79,7 +79,7 @@ slot_value_lem k m rs e ts v h b = go (is? (stored_as_zero k (value_of e)))
     own = row k (suc m) (value_of e)
 
     go : (stored_as_zero k (value_of e) ≡ true) ⊎ (stored_as_zero k (value_of e) ≡ false)
-        → slot_value k (rs ++ (row_of k (suc m) e ++ ts)) (suc m) (slot k (value_of e)) ≡ Found (value_of e)
+        → slot_value k (rs ++ (row_of k (suc m) e ++ ts)) (suc m) (slot k (value_of e)) ≡ Some (value_of e)
     go (inl t) =
         rw (
           needs_row_lem k (value_of e) v,
@@ -173,13 +173,13 @@ module _ (k : Kind) (a : Areas) (E : List Entry) (s : Full k a E) where
         first = rw (take-take i n E (omega arith), get_or-take n E i none g) at (split_at (take n E) i none (rw (length-take n E) (omega arith)))
 
     -- slot and row say the record's value
-    pub among_first : (n : ℕ) → i < n → slot_value k (rows_of k (take n E)) (suc i) (slot_at a.slots (suc i)) ≡ Found (value_of e)
+    pub among_first : (n : ℕ) → i < n → slot_value k (rows_of k (take n E)) (suc i) (slot_at a.slots (suc i)) ≡ Some (value_of e)
     among_first n g =
         rw (rows_split n g, slot_is)
         (slot_value_lem k i (rows_of k (take i E)) e (gather (row_of k) (suc i) (drop (suc i) (take n E))) e_valid.value (omega (arith, few k a E _ _ s))
         (rows_below k 0 i (take i E) (omega (arith, here)) (omega (arith, few k a E _ _ s))))
 
-    pub lookup_is : lookup_at k a (suc i) ≡ Found (value_of e)
+    pub lookup_is : lookup_at k a (suc i) ≡ Some (value_of e)
     unfolding lookup_at
     lookup_is = rw rows_are (rw (take-length E) at (among_first (length E) h))
 

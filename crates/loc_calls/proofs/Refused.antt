@@ -10,8 +10,7 @@ use lib.ListN.{length, get_or}
 use borrow.Author.Tests.{leb-true}
 use Rattle.loc_leaf.specs.declared.Kind.{Kind}
 use Rattle.loc_leaf.specs.declared.Kind.TheVariants.{Paired}
-use Rattle.loc_leaf.specs.declared.Answer.{Answer}
-use Rattle.loc_leaf.specs.Answers.{refuse, ◌or_else◌, answer}
+use Rattle.loc_leaf.specs.Answers.{refuse, ◌or_else◌, answer, Answer}
 use Rattle.loc_leaf.specs.Kind.{row_width, checkpoint_width}
 use Rattle.loc_leaf.specs.Slot.{strides_refusal}
 use Rattle.loc_leaf.specs.Rows.{row_list, ascending}
@@ -20,10 +19,9 @@ use Rattle.loc_leaf.proofs.Refusals.{or_else_holds, refuse_holds}
 use Rattle.loc_calls.specs.Areas.{Three, Areas, sizes, count}
 use Rattle.loc_calls.specs.Table.{saturated, Call, opening, append, truncate, read, Entry, body_after, span_after, entries, word_width, uneven, spanless, breaks, entry_refusal, entries_refusal, ListEnd, start_refusal, end_past, batch_refusal, table}
 use Rattle.loc_calls.specs.Stores.{ragged, open_refusal, settled, new_ends}
-use Rattle.loc_calls.specs.declared.SpanAt.{SpanAt}
 use Rattle.loc_calls.specs.Reading.{first_after, complete, within, words_for, end_read}
 use Rattle.loc_calls.specs.Calls.{unless_refused, too_small, first_refusal, whole_refusal, unread, is_opening, table_of, refusal, call, create, audit}
-use Rattle.loc_calls.specs.SpanAt.{holds, refused_by, crossing, span_among, span_at, span_at_outcome}
+use Rattle.loc_calls.specs.SpanAt.{Crossing, holds, refused_by, crossing, span_among, span_at, span_at_outcome}
 use Rattle.loc_calls.specs.Parts.{some_below, strange, misplaced, needed, first_fault, pairs_refusal, parts_table, parts_refusal, parts}
 use Rattle.loc_calls.specs.Withheld.{withheld}
 use Rattle.loc_calls.specs.Promises.{Stored}
@@ -176,7 +174,7 @@ none_located : (a : Areas) (x : ℕ) → ((span_at a x).number ≡ 0 → ⊥) �
 unfolding span_at span_among unless_refused crossing
 none_located a x = go (whole_refusal Paired a) (first_after (holds (words_for Paired a) x) 0 (count a))
   where
-    given : ℕ → ℕ → SpanAt
+    given : ℕ → ℕ → Crossing
     given n id = unless_refused n (crossing (words_for Paired a) x id) (refused_by n)
 
     go : (n id : ℕ) → ((given n id).number ≡ 0 → ⊥) → given n id ≡ refused_by (given n id).number
@@ -194,7 +192,7 @@ refusals_leave_all creation a h = record { value = value_0 (refuse (too_small a)
 refusals_leave_all (auditing k) a h = record { value = value_0 (first_refusal k a) _ h; buffer = refl; areas = refl }
 refusals_leave_all (locating x) a h = record {
   value = value_0 _ 0 h;
-  buffer = ap (λ (r : SpanAt). r.«record» ∷ r.index ∷ r.remainder ∷ []) (none_located a x (λ e. h (number_is _ 0 ∙ e)));
+  buffer = ap (λ (r : Crossing). r.«record» ∷ r.index ∷ r.remainder ∷ []) (none_located a x (λ e. h (number_is _ 0 ∙ e)));
   areas = refl;
 }
 refusals_leave_all (composing cs ps x out) a h = record { value = value_0 (parts_refusal cs ps x out a) _ h; buffer = kept (parts_refusal cs ps x out a) _ _ out h; areas = refl }

@@ -2,8 +2,7 @@
 -- (document 01, "What each call gives"). Open, append, truncate and read are `call`; `create` and `audit` stand by themselves, as do `span_at` (SpanAt), `parts` (Parts) and `withheld` (Withheld).
 use Rattle.std.specs.Prelude.{ℕ, zero, suc, Bool, true, false, cond, not, List, [], ◌∷◌, ltb, length}
 use Rattle.loc_leaf.specs.declared.Kind.{Kind}
-use Rattle.loc_leaf.specs.declared.Answer.{Answer}
-use Rattle.loc_leaf.specs.Answers.{refuse, ◌or_else◌, answer}
+use Rattle.loc_leaf.specs.Answers.{refuse, ◌or_else◌, answer, Answer}
 use Rattle.loc_calls.specs.Areas.{each, some, Areas, sizes, count}
 use Rattle.loc_calls.specs.Table.{Call, opening, append, truncate, read, entries, table}
 use Rattle.loc_calls.specs.Stores.{Place, slot_length, row_length, checkpoint_length, run, truncate_places, open_places, open_refusal, settled, staged, append_places, new_ends}

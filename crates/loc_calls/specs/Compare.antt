@@ -3,8 +3,7 @@
 use Rattle.std.specs.Prelude.{ℕ, zero, suc, ◌-◌, ◌*◌, ◌≤◌, ◌≡◌, ◌⊎◌, ◌↔◌, cond, List, [], ◌∷◌, ltb}
 use Rattle.loc_leaf.specs.declared.Kind.{Kind}
 use Rattle.loc_leaf.specs.declared.Kind.TheVariants.{Paired}
-use Rattle.loc_leaf.specs.declared.Answer.{Answer}
-use Rattle.loc_leaf.specs.Answers.{◌or_else◌, answer}
+use Rattle.loc_leaf.specs.Answers.{◌or_else◌, answer, Answer}
 use Rattle.loc_calls.specs.Areas.{Areas, count}
 use Rattle.loc_calls.specs.Reading.{value_at}
 use Rattle.loc_calls.specs.Calls.{Outcome, whole_refusal}

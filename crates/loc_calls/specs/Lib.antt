@@ -8,5 +8,6 @@ pub mod SpanAt
 pub mod Parts
 pub mod Withheld
 pub mod Compare
+pub mod Lent
 pub mod Promises
 pub mod Guarantees

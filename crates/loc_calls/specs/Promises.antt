@@ -1,7 +1,7 @@
 -- What code promises at its return, by the outcome that a definition gives its call.
 -- Number, value, and every byte or word of what the call was lent.
 use Rattle.std.specs.Prelude.{ℕ, ◌≡◌, List}
-use Rattle.loc_leaf.specs.declared.Answer.{Answer}
+use Rattle.loc_leaf.specs.Answers.{Answer}
 use Rattle.loc_calls.specs.Areas.{Areas}
 use Rattle.loc_calls.specs.Calls.{Outcome}
 

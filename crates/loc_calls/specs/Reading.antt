@@ -1,12 +1,10 @@
 -- What a reading finds, and where by it the list ends (document 01, "create_loc.rs and the rest": reading; "What each call gives"; document 02, Item 5).
 -- Each wanted number is taken by itself; the order in which the code takes them is its own.
-use Rattle.std.specs.Prelude.{ℕ, zero, suc, ◌+◌, ◌-◌, ◌*◌, min, Bool, true, false, cond, not, ◌&&◌, ◌||◌, leb, ltb, length, take, drop, replicate}
+use Rattle.std.specs.Prelude.{ℕ, zero, suc, ◌+◌, ◌-◌, ◌*◌, min, Bool, true, false, cond, not, ◌&&◌, ◌||◌, leb, ltb, length, take, drop, replicate, Option, Some, None}
 use mathlib.Core.List.{List, [], ◌∷◌, ◌++◌, map, flatten}
 use Rattle.loc_leaf.specs.declared.Kind.{Kind}
 use Rattle.loc_leaf.specs.declared.Kind.TheVariants.{Paired, Single}
 use Rattle.loc_leaf.specs.declared.Value.{Value}
-use Rattle.loc_leaf.specs.declared.delta_loc.Lookup.{Lookup}
-use Rattle.loc_leaf.specs.declared.delta_loc.Lookup.TheVariants.{Found, Missing}
 use Rattle.loc_leaf.specs.Answers.{refuse, ◌or_else◌}
 use Rattle.loc_leaf.specs.Bytes.{Bytes, number_at}
 use Rattle.loc_leaf.specs.Kind.{checkpoint_width, window_of, within_window}
@@ -33,13 +31,13 @@ first_after f m (suc n) = first_after f m n or_else refuse (f (m + suc n)) (m + 
 -- ---- records
 
 -- what slot and row say of record id
-unfoldable pub lookup_at : Kind → Areas → ℕ → Lookup
+unfoldable pub lookup_at : Kind → Areas → ℕ → Option Value
 lookup_at k a id = slot_value k (row_list k a.rows) id (slot_at a.slots id)
 
 -- no row is missing
-unfoldable pub has : Lookup → Bool
-has (Found v) = true
-has Missing = false
+unfoldable pub has : Option Value → Bool
+has (Some v) = true
+has None = false
 
 unfoldable pub value_at : Kind → Areas → ℕ → Value
 value_at k a id = value_in (lookup_at k a id)

@@ -1,8 +1,8 @@
 -- How many records are durable (document 02, Item 10), where the row area has reached the medium up to a length d.
 -- For an index that demand 3 covers it is the largest n for which the first n records use durable rows only (loc_history).
-use Rattle.std.specs.Prelude.{ℕ, ◌-◌, ◌/◌, ◌%◌, ◌≤◌, ◌<◌, ◌≡◌, Bool, true, false, cond, ◌&&◌, List, [], leb, eqb, take}
+use Rattle.loc_leaf.specs.declared.Value.{Value}
+use Rattle.std.specs.Prelude.{ℕ, ◌-◌, ◌/◌, ◌%◌, ◌≤◌, ◌<◌, ◌≡◌, Bool, true, false, cond, ◌&&◌, List, [], leb, eqb, take, Option}
 use Rattle.loc_leaf.specs.declared.Kind.{Kind}
-use Rattle.loc_leaf.specs.declared.delta_loc.Lookup.{Lookup}
 use Rattle.loc_leaf.specs.Bytes.{Bytes}
 use Rattle.loc_leaf.specs.Answers.{answer}
 use Rattle.loc_leaf.specs.Area.{counted}
@@ -41,7 +41,7 @@ withheld k d a = record { answer = answer (first_refusal k a) (withheld_limit k 
 -- ---- what the answer means
 
 -- what slot and durable row say of record id
-unfoldable pub durable_at : Kind → ℕ → Areas → ℕ → Lookup
+unfoldable pub durable_at : Kind → ℕ → Areas → ℕ → Option Value
 durable_at k d a id = slot_value k (rows_before k d a.rows) id (slot_at a.slots id)
 
 -- the first n records use durable rows only: none of them needs a row that is not among those

@@ -1,7 +1,11 @@
 // Three areas in one array, so that a case can keep a copy: slots from 0 on, rows from 2,080, checkpoints from 2,144.
-// Bytes 0 to 7 of an area, which no call reads or writes, hold its size.
+// Bytes 0 to 7 of an area, which no call reads or writes, hold its size. A byte that nothing stores is 9.
+use crate::script::Numbers;
+use loc_calls::AreasMut;
 use loc_leaf::file::{logical_len, put_le, u64_at};
-use loc_lent::parts::{first_bytes, part, plus};
+use loc_lent::{copied, first, first_mut, rest, store};
+
+const LEN: usize = 2192;
 
 pub const SLOTS: usize = 0;
 
@@ -9,78 +13,102 @@ pub const ROWS: usize = 2080;
 
 pub const CHECKPOINTS: usize = 2144;
 
-// An area of a size that publishes nothing.
-fn start(w: &mut [u8; 2192], area: usize, size: u64) {
-    put_le(w, area, 8, size);
-    put_le(w, plus(area, 8), 8, 16);
-}
+// An area as a call is lent it: as many of these bytes as its size says.
+// All bytes from its first on are copied, those of the next area too: the program's behaviour on any input is kept.
+#[derive(Drop)]
+struct Area([u8; ROWS]);
 
-// New areas of the sizes that the first three numbers say. Every other byte is 9.
-pub fn renew(w: &mut [u8; 2192], sizes: &[u64; 1040]) {
-    *w = [9; 2192];
-    start(w, SLOTS, sizes[0]);
-    start(w, ROWS, sizes[1]);
-    start(w, CHECKPOINTS, sizes[2]);
-}
+impl Area {
+    fn size(&self) -> usize {
+        u64_at(&self.0, 0) as usize
+    }
 
-// Stores the published length that the first number says, and the others as bytes from 16 on.
-pub fn fill(w: &mut [u8; 2192], area: usize, list: &[u64; 1040], n: usize) {
-    put_le(w, plus(area, 8), 8, list[0]);
-    let mut i = 1;
-    while i < n {
-        if i < 1040 {
-            put_le(w, plus(plus(area, 15), i), 1, list[i]);
-        }
-        i += 1;
+    fn lent(&self) -> &[u8] {
+        first(&self.0, self.size())
+    }
+
+    fn lend(&mut self) -> &mut [u8] {
+        let size = self.size();
+        let bytes = &mut self.0[..];
+        first_mut(bytes, size)
     }
 }
 
-// The area that a call is lent: as many of the bytes as its size says.
-pub fn lent(bytes: &mut [u8]) -> &mut [u8] {
-    let size = u64_at(bytes, 0) as usize;
-    part(bytes, size)
+// Copies of the three, to make a call on.
+#[derive(Drop)]
+pub struct Copies {
+    slots: Area,
+    rows: Area,
+    checkpoints: Area,
 }
 
-// The bytes from an area's first on.
-pub fn bytes_of(w: &[u8; 2192], area: usize) -> [u8; 2080] {
-    let mut bytes = [0u8; 2080];
-    let mut i = 0;
-    while i < 2080 {
-        let from = plus(area, i);
-        if from < 2192 {
-            bytes[i] = w[from];
+impl Copies {
+    pub fn lend(&mut self) -> AreasMut<'_> {
+        AreasMut {
+            slots: self.slots.lend(),
+            rows: self.rows.lend(),
+            checkpoints: self.checkpoints.lend(),
         }
-        i += 1;
-    }
-    bytes
-}
-
-// So many bytes of an area back to their places.
-pub fn put_back(w: &mut [u8; 2192], area: usize, n: usize, bytes: &[u8; 2080]) {
-    let mut i = 0;
-    while i < n {
-        let to = plus(area, i);
-        if i < 2080 {
-            if to < 2192 {
-                w[to] = bytes[i];
-            }
-        }
-        i += 1;
     }
 }
 
-fn counted_in(bytes: &[u8]) -> u64 {
-    let size = u64_at(bytes, 0) as usize;
-    logical_len(first_bytes(bytes, size)) as u64
-}
+#[derive(Clone, Copy, PartialEq, Eq)]
+pub struct OwnAreas([u8; LEN]);
 
-// The published length as it counts.
-pub fn counted(w: &[u8; 2192], area: usize) -> u64 {
-    let bytes = bytes_of(w, area);
-    counted_in(&bytes)
-}
+impl OwnAreas {
+    // As a section begins: larger than their bytes.
+    pub fn new() -> Self {
+        OwnAreas([9; LEN])
+    }
 
-// Arrays, since their lengths are in their types.
-pub fn same(a: &[u8; 2192], b: &[u8; 2192]) -> bool {
-    *a == *b
+    // Of the sizes that the first three numbers say, and publishing nothing.
+    pub fn sized(numbers: &Numbers) -> Self {
+        let mut areas = OwnAreas::new();
+        for (i, area) in [SLOTS, ROWS, CHECKPOINTS].iter().enumerate() {
+            put_le(&mut areas.0, *area, 8, numbers.at(i));
+            put_le(&mut areas.0, *area + 8, 8, 16);
+        }
+        areas
+    }
+
+    // Stores the published length that the first number says, and the others as bytes from 16 on, into the next area too.
+    pub fn fill(&mut self, area: usize, numbers: &Numbers) {
+        put_le(&mut self.0, area.saturating_add(8), 8, numbers.at(0));
+        for (to, n) in self
+            .0
+            .iter_mut()
+            .skip(area.saturating_add(16))
+            .zip(rest(numbers.held(), 1))
+        {
+            *to = (*n & 0xff) as u8;
+        }
+    }
+
+    fn area(&self, at: usize) -> Area {
+        Area(copied(&self.0, at))
+    }
+
+    pub fn copies(&self) -> Copies {
+        Copies {
+            slots: self.area(SLOTS),
+            rows: self.area(ROWS),
+            checkpoints: self.area(CHECKPOINTS),
+        }
+    }
+
+    // What a call left of them. A byte that it stored past an area's own is lost.
+    pub fn put_back(&mut self, copies: &Copies) {
+        store(&mut self.0, SLOTS, &copies.slots.0);
+        store(&mut self.0, ROWS, first(&copies.rows.0, CHECKPOINTS - ROWS));
+        store(
+            &mut self.0,
+            CHECKPOINTS,
+            first(&copies.checkpoints.0, LEN - CHECKPOINTS),
+        );
+    }
+
+    // The published length as it counts.
+    pub fn counted(&self, area: usize) -> u64 {
+        logical_len(self.area(area).lent()) as u64
+    }
 }

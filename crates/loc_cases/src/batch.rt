@@ -1,57 +1,42 @@
 // The batch that a line's numbers spell: start, length, span start and span count of each record.
 // One number alone is a count: so many records of 8 bytes with 1 span from 16 on. A start that is left over has no length.
+use crate::script::{Numbers, counted};
+use loc_calls::Batch;
+use loc_lent::lists::Lists;
 
-// A number of a line, 0 past its end.
-pub fn number(list: &[u64; 1040], at: usize) -> u64 {
-    if at < 1040 { list[at] } else { 0 }
+fn field(record: &[u64], at: usize) -> u64 {
+    record.get(at).copied().unwrap_or(0)
 }
 
-// A field of record i, from 0 on.
-fn field(list: &[u64; 1040], n: usize, i: usize, at: usize) -> u64 {
-    if 1030 < i {
-        return 0;
+// The fields that are left over count as 0 here.
+pub fn lists(numbers: &Numbers) -> Lists<1030> {
+    let mut lists = Lists::new();
+    if numbers.count() == 1 {
+        for i in 0..1030 {
+            let start = 16 + 8 * i as u64;
+            lists.put(i, start, 8, start, 1);
+        }
+        return lists;
     }
-    if n != 1 {
-        return if at < 4 { number(list, 4 * i + at) } else { 0 };
+    for (i, record) in numbers.held().chunks(4).enumerate() {
+        lists.put(
+            i,
+            field(record, 0),
+            field(record, 1),
+            field(record, 2),
+            (field(record, 3) & 0xffff_ffff) as u32,
+        );
     }
-    match at {
-        1 => 8,
-        3 => 1,
-        _ => 16 + 8 * i as u64,
-    }
+    lists
 }
 
-// How many records have a start, and all else.
-pub fn starts_in(list: &[u64; 1040], n: usize) -> usize {
+// As many of them as the numbers spell. A line that fills the list or has more has no start: the program's behaviour on any input is kept.
+pub fn batch<'a>(lists: &'a Lists<1030>, numbers: &Numbers) -> Batch<'a> {
+    let n = numbers.count();
     if n == 1 {
-        return whole_in(list, n);
+        let n = counted(numbers.at(0)) as usize;
+        return lists.batch(n, n, n);
     }
-    if n < 1040 { (n + 3) / 4 } else { 0 }
-}
-
-pub fn whole_in(list: &[u64; 1040], n: usize) -> usize {
-    if n == 1 {
-        return if list[0] < 1030 { list[0] as usize } else { 0 };
-    }
-    n / 4
-}
-
-pub fn fields(list: &[u64; 1040], n: usize, at: usize) -> [u64; 1030] {
-    let mut column = [0u64; 1030];
-    let mut i = 0;
-    while i < 1030 {
-        column[i] = field(list, n, i, at);
-        i += 1;
-    }
-    column
-}
-
-pub fn span_counts(list: &[u64; 1040], n: usize) -> [u32; 1030] {
-    let mut column = [0u32; 1030];
-    let mut i = 0;
-    while i < 1030 {
-        column[i] = (field(list, n, i, 3) % 0x1_0000_0000) as u32;
-        i += 1;
-    }
-    column
+    let starts = if n < 1040 { n.div_ceil(4) } else { 0 };
+    lists.batch(starts, n / 4, n / 4)
 }

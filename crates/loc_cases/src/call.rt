@@ -1,186 +1,147 @@
-// A call on the three areas of an array, with a line's numbers: the records of a batch, or the count of a truncation.
+// A call on areas, with a line's numbers: the records of a batch, or the count of a truncation.
 // A reading has the words of its answer buffer and then the wanted numbers; parts has these words, the record and then the pairs.
-use crate::areas::{CHECKPOINTS, ROWS, SLOTS, bytes_of, lent, put_back};
-use crate::batch::{fields, span_counts, starts_in, whole_in};
+use crate::areas::OwnAreas;
+use crate::batch::{batch, lists};
 use crate::listing::put_listing;
-use crate::pairs::{column, components_in, composites_in};
-use loc_calls::SpanAt;
-use loc_leaf::{Answer, Kind};
-use loc_lent::calls;
-use loc_lent::calls::Storing;
-use loc_lent::parts::{first_bytes, first_counts, first_words, part_words};
+use crate::pairs::Pairs;
+use crate::script::{Line, Numbers};
+use loc_calls::{Areas, AreasMut};
+use loc_leaf::Kind;
+use loc_leaf::refusal::Refusal;
+use loc_lent::{first, first_mut, storing};
 
-// All numbers but the first.
-fn wanted(list: &[u64], n: usize) -> &[u64] {
-    if n < 1 {
-        return &list[..0];
+// Those that store at several places are made whole, or as the run at some of them.
+#[derive(Clone, Copy)]
+pub enum Call {
+    Create,
+    Open(Option<u64>),
+    Append(Option<u64>),
+    Listing(Option<u64>),
+    Truncate(Option<u64>),
+    Read,
+    Parts,
+    Audit,
+    Withheld,
+}
+
+// A call's letter: its first, for audit its second.
+fn letter(line: &Line) -> u8 {
+    if line.second == b'u' {
+        b'u'
+    } else {
+        line.first
     }
-    if list.len() < n {
-        return &list[..0];
+}
+
+impl Call {
+    // The call that a line names. An upper-case letter and any other name a run that stores at no place: the program's behaviour on any input is kept.
+    pub fn named(line: &Line) -> Call {
+        match letter(line) {
+            b'c' => Call::Create,
+            b'o' => Call::Open(None),
+            b'O' => Call::Open(Some(0)),
+            b'a' => Call::Append(None),
+            b'A' => Call::Append(Some(0)),
+            b'l' => Call::Listing(None),
+            b'L' => Call::Listing(Some(0)),
+            b't' => Call::Truncate(None),
+            b'r' => Call::Read,
+            b'p' => Call::Parts,
+            b'u' => Call::Audit,
+            b'w' => Call::Withheld,
+            _ => Call::Truncate(Some(0)),
+        }
     }
-    &list[1..n]
+
+    // Its run at some places.
+    pub fn run_named(line: &Line, places: u64) -> Call {
+        match letter(line) {
+            b'o' => Call::Open(Some(places)),
+            b'a' => Call::Append(Some(places)),
+            b'l' => Call::Listing(Some(places)),
+            _ => Call::Truncate(Some(places)),
+        }
+    }
+
+    // How many places the call has that a line names.
+    pub fn places(line: &Line) -> u64 {
+        match letter(line) {
+            b'o' => 6,
+            b'a' | b'l' => 4,
+            _ => 3,
+        }
+    }
+
+    // Whether it is lent an answer buffer.
+    pub fn answers(self) -> bool {
+        matches!(self, Call::Read | Call::Parts)
+    }
 }
 
 fn append(
     kind: Kind,
-    letter: u8,
-    places: u64,
-    list: &[u64; 1040],
-    n: usize,
-    slots: &mut [u8],
-    rows: &mut [u8],
-    checkpoints: &mut [u8],
-) -> Answer {
-    let k = starts_in(list, n);
-    let m = whole_in(list, n);
-    let starts = fields(list, n, 0);
-    let lens = fields(list, n, 1);
-    let span_starts = fields(list, n, 2);
-    let counts = span_counts(list, n);
-    calls::append(
-        kind,
-        letter == b'a',
-        places,
-        slots,
-        rows,
-        checkpoints,
-        first_words(&starts, k),
-        first_words(&lens, m),
-        first_words(&span_starts, m),
-        first_counts(&counts, m),
-    )
+    areas: &mut AreasMut,
+    numbers: &Numbers,
+    places: Option<u64>,
+) -> Result<u64, Refusal> {
+    let lists = lists(numbers);
+    storing::append(kind, areas, batch(&lists, numbers), places)
 }
 
 fn append_listing(
-    letter: u8,
-    places: u64,
-    list: &[u64; 1040],
-    n: usize,
-    slots: &mut [u8],
-    rows: &mut [u8],
-    checkpoints: &mut [u8],
-) -> Answer {
+    areas: &mut AreasMut,
+    numbers: &Numbers,
+    places: Option<u64>,
+) -> Result<u64, Refusal> {
     let mut text = [0u8; 512];
-    let k = put_listing(list, n, &mut text);
-    calls::append_listing(
-        letter == b'l',
-        places,
-        slots,
-        rows,
-        checkpoints,
-        first_bytes(&text, k),
-    )
+    let n = put_listing(numbers, &mut text);
+    storing::append_listing(areas, first(&text, n), places)
 }
 
-fn parts(
-    list: &[u64; 1040],
-    n: usize,
-    slots: &mut [u8],
-    rows: &mut [u8],
-    checkpoints: &mut [u8],
-    answers: &mut [u64],
-) -> Answer {
-    let composites = column(list, n, false);
-    let components = column(list, n, true);
-    calls::parts(
-        slots,
-        rows,
-        checkpoints,
-        first_words(&composites, composites_in(list, n)),
-        first_words(&components, components_in(list, n)),
-        list[1],
+fn parts(a: Areas, numbers: &Numbers, answers: &mut [u64]) -> Result<u64, Refusal> {
+    let pairs = Pairs::of(numbers);
+    loc_index::parts(
+        a,
+        pairs.composites(),
+        pairs.components(),
+        numbers.at(1),
         answers,
     )
 }
 
-fn storing(letter: u8) -> Storing {
-    match letter {
-        b'c' => Storing::Create,
-        b'o' => Storing::Open,
-        b'O' => Storing::OpenRun,
-        b't' => Storing::Truncate,
-        _ => Storing::TruncateRun,
+impl Call {
+    fn made_on(
+        self,
+        kind: Kind,
+        areas: &mut AreasMut,
+        numbers: &Numbers,
+        answers: &mut [u64],
+    ) -> Result<u64, Refusal> {
+        let count = numbers.at(0);
+        let answers = first_mut(answers, count as usize);
+        match self {
+            Call::Create => loc_index::create(areas),
+            Call::Open(places) => storing::open(kind, areas, places),
+            Call::Append(places) => append(kind, areas, numbers, places),
+            Call::Listing(places) => append_listing(areas, numbers, places),
+            Call::Truncate(places) => storing::truncate(kind, areas, count, places),
+            Call::Read => loc_index::range_batch(kind, areas.shared(), numbers.after(1), answers),
+            Call::Parts => parts(areas.shared(), numbers, answers),
+            Call::Audit => loc_index::audit(kind, areas.shared()),
+            Call::Withheld => loc_index::withheld_ovf_limit(kind, areas.shared(), count),
+        }
     }
-}
 
-// The call on areas that are lent, by its letter: an upper-case one is the run of a call at some of its places.
-fn on_areas(
-    kind: Kind,
-    letter: u8,
-    places: u64,
-    list: &[u64; 1040],
-    n: usize,
-    slots: &mut [u8],
-    rows: &mut [u8],
-    checkpoints: &mut [u8],
-    answers: &mut [u64],
-) -> Answer {
-    match letter {
-        b'a' | b'A' => append(kind, letter, places, list, n, slots, rows, checkpoints),
-        b'l' | b'L' => append_listing(letter, places, list, n, slots, rows, checkpoints),
-        b'r' => calls::read(kind, slots, rows, checkpoints, wanted(list, n), answers),
-        b'p' => parts(list, n, slots, rows, checkpoints, answers),
-        b'u' => calls::audit(kind, slots, rows, checkpoints),
-        b'w' => calls::withheld_ovf_limit(kind, slots, rows, checkpoints, list[0]),
-        _ => calls::store(
-            kind,
-            storing(letter),
-            list[0],
-            places,
-            slots,
-            rows,
-            checkpoints,
-        ),
+    pub fn made(
+        self,
+        kind: Kind,
+        areas: &mut OwnAreas,
+        numbers: &Numbers,
+        answers: &mut [u64],
+    ) -> Result<u64, Refusal> {
+        let mut copies = areas.copies();
+        let answer = self.made_on(kind, &mut copies.lend(), numbers, answers);
+        areas.put_back(&copies);
+        answer
     }
-}
-
-pub fn call(
-    kind: Kind,
-    letter: u8,
-    places: u64,
-    list: &[u64; 1040],
-    n: usize,
-    w: &mut [u8; 2192],
-    answers: &mut [u64],
-) -> Answer {
-    let mut slots = bytes_of(w, SLOTS);
-    let mut rows = bytes_of(w, ROWS);
-    let mut checkpoints = bytes_of(w, CHECKPOINTS);
-    let answer = on_areas(
-        kind,
-        letter,
-        places,
-        list,
-        n,
-        lent(&mut slots),
-        lent(&mut rows),
-        lent(&mut checkpoints),
-        part_words(answers, list[0] as usize),
-    );
-    put_back(w, SLOTS, 2080, &slots);
-    put_back(w, ROWS, 64, &rows);
-    put_back(w, CHECKPOINTS, 48, &checkpoints);
-    answer
-}
-
-fn span_on_areas(
-    address: u64,
-    slots: &mut [u8],
-    rows: &mut [u8],
-    checkpoints: &mut [u8],
-) -> SpanAt {
-    calls::span_at(slots, rows, checkpoints, address)
-}
-
-// Whose crossing is at an address.
-pub fn span_at(address: u64, w: &[u8; 2192]) -> SpanAt {
-    let mut slots = bytes_of(w, SLOTS);
-    let mut rows = bytes_of(w, ROWS);
-    let mut checkpoints = bytes_of(w, CHECKPOINTS);
-    span_on_areas(
-        address,
-        lent(&mut slots),
-        lent(&mut rows),
-        lent(&mut checkpoints),
-    )
 }

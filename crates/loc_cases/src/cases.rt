@@ -1,261 +1,197 @@
 // The script's commands. A section ends with a line of `=`; it is run for the paired kind, then for the single one.
 // A call that is made to see its answer has a buffer filled with 9, so that words that are not stored show.
-use crate::areas::{CHECKPOINTS, ROWS, SLOTS, counted};
-use crate::call::{call, span_at};
-use crate::script::{Line, found, line_at, put_numbers};
-use crate::{areas, print};
-use loc_leaf::file::byte_at;
-use loc_leaf::{Answer, Kind};
-use loc_lent::parts::plus;
+use crate::areas::{CHECKPOINTS, OwnAreas, ROWS, SLOTS};
+use crate::call::Call;
+use crate::print;
+use crate::script::{Line, Numbers, after_line, ends, meant};
+use loc_leaf::Kind;
+use loc_leaf::refusal::Refusal;
+use loc_lent::{first, number_and_value, rest};
 use std::io;
 
-// A call's letter: its first, for audit its second.
-fn letter_of(line: Line) -> u8 {
-    if line.second == b'u' {
-        b'u'
-    } else {
-        line.first
-    }
-}
-
-// The letter of its run, and how many places it has.
-fn run_of(letter: u8) -> u8 {
-    match letter {
-        b'o' => b'O',
-        b'a' => b'A',
-        b'l' => b'L',
-        _ => b'T',
-    }
-}
-
-fn places_of(letter: u8) -> u64 {
-    match letter {
-        b'o' => 6,
-        b'a' | b'l' => 4,
-        _ => 3,
-    }
-}
-
-fn untouched(answers: &[u64; 32]) -> bool {
-    let mut i = 0;
-    while i < 32 {
-        if answers[i] != 9 {
-            return false;
-        }
-        i += 1;
-    }
-    true
-}
-
-// make: the call alone. kept: number, value, and whether every byte of the areas and every word of the buffer stayed as it
-// was. answer: number, value, and every word of the buffer that a reading or parts is lent.
-fn one<P: Print>(
-    rt: &P,
-    text: &[u8],
-    line: Line,
+// A line at one kind.
+#[derive(Clone, Copy)]
+struct Case<'a> {
     kind: Kind,
-    list: &[u64; 1040],
-    n: usize,
-    w: &mut [u8; 2192],
-) -> io::Result<()> {
-    let letter = letter_of(line);
-    let before = *w;
-    let mut answers = [9u64; 32];
-    let answer = call(kind, letter, 0, list, n, w, &mut answers);
-    if line.command == b'm' {
-        return Ok(());
+    line: Line<'a>,
+    numbers: &'a Numbers,
+}
+
+impl<'a> Case<'a> {
+    fn call(&self, call: Call, areas: &mut OwnAreas, answers: &mut [u64]) -> Result<u64, Refusal> {
+        call.made(self.kind, areas, self.numbers, answers)
     }
-    print::kind(rt, kind)?;
-    print::words(rt, text, line.words, line.numbers)?;
+
+    // The call that the line names.
+    fn named(&self) -> Call {
+        Call::named(&self.line)
+    }
+
+    fn print_begin<P: Print>(&self, rt: &P) -> io::Result<()> {
+        rt.print(print::kind(self.kind))?;
+        rt.write_all(self.line.words)
+    }
+
+    // kept: number, value, and whether every byte of the areas and every word of the buffer stayed as it was.
+    fn kept<P: Print>(&self, rt: &P, areas: &mut OwnAreas) -> io::Result<()> {
+        let before = *areas;
+        let mut answers = [9u64; 32];
+        let answer = self.call(self.named(), areas, &mut answers);
+        let same = *areas == before && answers == [9u64; 32];
+        self.print_begin(rt)?;
+        print::answer(rt, answer)?;
+        let kept = if same { "same" } else { "changed" };
+        println!(rt; " {kept}")
+    }
+
+    // answer: number, value, and every word of the buffer that a reading or parts is lent.
+    fn answer<P: Print>(&self, rt: &P, areas: &mut OwnAreas) -> io::Result<()> {
+        let mut answers = [9u64; 32];
+        let call = self.named();
+        let answer = self.call(call, areas, &mut answers);
+        self.print_begin(rt)?;
+        print::answer(rt, answer)?;
+        if call.answers() {
+            print::numbers(rt, first(&answers, self.numbers.at(0) as usize))?;
+        }
+        println!(rt;)
+    }
+
+    // list: records 1 and 2, a line for each, without the word that says that they were found.
+    fn list<P: Print>(&self, rt: &P, areas: &mut OwnAreas) -> io::Result<()> {
+        let mut answers = [9u64; 32];
+        let _ = self.call(Call::Read, areas, &mut answers);
+        let width = match self.kind {
+            Kind::Paired => 6,
+            Kind::Single => 3,
+        };
+        for (i, words) in answers.chunks_exact(width).take(2).enumerate() {
+            print!(rt; "{}", i + 1)?;
+            print::numbers(rt, rest(words, 1))?;
+            println!(rt;)?;
+        }
+        Ok(())
+    }
+
+    // torn: at every number of places below all: places, count before; number, value and lengths after the tear and after the opening.
+    fn torn<P: Print>(&self, rt: &P, areas: &OwnAreas) -> io::Result<()> {
+        for places in 0..Call::places(&self.line) {
+            let count = self.count(areas);
+            self.print_begin(rt)?;
+            print!(rt; " {places} {count}")?;
+            self.tear(rt, places, areas)?;
+            println!(rt;)?;
+        }
+        Ok(())
+    }
+
+    // An opening that stores at no place answers the count.
+    fn count(&self, areas: &OwnAreas) -> u64 {
+        let mut copy = *areas;
+        let (_, count) = number_and_value(self.call(Call::Open(Some(0)), &mut copy, &mut []));
+        count
+    }
+
+    // A tear on a copy of the areas, and the opening that follows it.
+    fn tear<P: Print>(&self, rt: &P, places: u64, areas: &OwnAreas) -> io::Result<()> {
+        let mut copy = *areas;
+        let run = Call::run_named(&self.line, places);
+        let torn = self.call(run, &mut copy, &mut []);
+        print_left(rt, "torn", torn, &copy)?;
+        let opened = self.call(Call::Open(None), &mut copy, &mut []);
+        print_left(rt, "opened", opened, &copy)
+    }
+
+    // find: number, record, index and remainder of an address.
+    fn find<P: Print>(&self, rt: &P, areas: &OwnAreas) -> io::Result<()> {
+        let address = self.numbers.at(0);
+        let mut copies = areas.copies();
+        let found = loc_index::span_at(copies.lend().shared(), address);
+        self.print_begin(rt)?;
+        print!(rt; " {address}")?;
+        match found {
+            Ok(at) => print::numbers(rt, &[0, at.record, at.index, at.remainder])?,
+            Err(refusal) => print::numbers(rt, &[u64::from(refusal), 0, 0, 0])?,
+        }
+        println!(rt;)
+    }
+
+    // Commands that change the areas by hand, then those that make a call, each by its first letter. Any other prints its words.
+    fn run<P: Print>(&self, rt: &P, areas: &mut OwnAreas) -> io::Result<()> {
+        match self.line.command {
+            b'n' => *areas = OwnAreas::sized(self.numbers),
+            b's' => areas.fill(SLOTS, self.numbers),
+            b'r' => areas.fill(ROWS, self.numbers),
+            b'c' => areas.fill(CHECKPOINTS, self.numbers),
+            b'm' => {
+                let _ = self.call(self.named(), areas, &mut [9u64; 32]);
+            }
+            b'k' => self.kept(rt, areas)?,
+            b'a' => self.answer(rt, areas)?,
+            b'l' => self.list(rt, areas)?,
+            b't' => self.torn(rt, areas)?,
+            b'f' => self.find(rt, areas)?,
+            _ => {
+                rt.write_all(rest(self.line.words, 1))?;
+                println!(rt;)?;
+            }
+        }
+        Ok(())
+    }
+}
+
+fn print_left<P: Print>(
+    rt: &P,
+    name: &str,
+    answer: Result<u64, Refusal>,
+    areas: &OwnAreas,
+) -> io::Result<()> {
+    print!(rt; " {name}")?;
     print::answer(rt, answer)?;
-    if line.command == b'k' {
-        print::kept(rt, areas::same(&before, w) && untouched(&answers))?;
-    } else if letter == b'r' || letter == b'p' {
-        print::numbers(rt, &answers, 0, list[0] as usize)?;
-    }
-    print::end(rt)
+    print::numbers(
+        rt,
+        &[
+            areas.counted(SLOTS),
+            areas.counted(ROWS),
+            areas.counted(CHECKPOINTS),
+        ],
+    )
 }
 
-fn words_of(kind: Kind) -> usize {
-    match kind {
-        Kind::Paired => 6,
-        Kind::Single => 3,
-    }
-}
-
-fn list_record<P: Print>(
-    rt: &P,
-    number: u64,
-    answers: &[u64; 32],
-    from: usize,
-    to: usize,
-) -> io::Result<()> {
-    print::first_number(rt, number)?;
-    print::numbers(rt, answers, from, to)?;
-    print::end(rt)
-}
-
-// list: records 1 and 2, a line for each, without the word that says that they were found.
-fn list_two<P: Print>(
-    rt: &P,
-    kind: Kind,
-    list: &[u64; 1040],
-    n: usize,
-    w: &mut [u8; 2192],
-) -> io::Result<()> {
-    let mut answers = [9u64; 32];
-    let width = words_of(kind);
-    call(kind, b'r', 0, list, n, w, &mut answers);
-    list_record(rt, 1, &answers, 1, width)?;
-    list_record(rt, 2, &answers, plus(width, 1), plus(width, width))
-}
-
-fn print_left<P: Print>(rt: &P, name: &[u8], answer: Answer, w: &[u8; 2192]) -> io::Result<()> {
-    print::text(rt, name)?;
-    print::answer(rt, answer)?;
-    print::number(rt, counted(w, SLOTS))?;
-    print::number(rt, counted(w, ROWS))?;
-    print::number(rt, counted(w, CHECKPOINTS))
-}
-
-// A tear on a copy of the areas, and the opening that follows it.
-fn tear<P: Print>(
-    rt: &P,
-    kind: Kind,
-    letter: u8,
-    places: u64,
-    list: &[u64; 1040],
-    n: usize,
-    before: &[u8; 2192],
-) -> io::Result<()> {
-    let mut w = *before;
-    let torn = call(kind, run_of(letter), places, list, n, &mut w, &mut [9; 32]);
-    print_left(rt, b" torn", torn, &w)?;
-    let opened = call(kind, b'o', 0, list, n, &mut w, &mut [9; 32]);
-    print_left(rt, b" opened", opened, &w)
-}
-
-// An opening that stores at no place answers the count.
-fn count(kind: Kind, list: &[u64; 1040], before: &[u8; 2192]) -> u64 {
-    let mut w = *before;
-    let opened = call(kind, b'O', 0, list, 0, &mut w, &mut [9; 32]);
-    opened.value
-}
-
-// torn: at every number of places below all: places, count before; number, value and lengths after the tear and after the opening.
-fn torn<P: Print>(
-    rt: &P,
-    text: &[u8],
-    line: Line,
-    kind: Kind,
-    list: &[u64; 1040],
-    n: usize,
-    w: &[u8; 2192],
-) -> io::Result<()> {
-    let letter = letter_of(line);
-    let last = places_of(letter);
-    let mut places = 0;
-    while places < last {
-        print::kind(rt, kind)?;
-        print::words(rt, text, line.words, line.numbers)?;
-        print::number(rt, places)?;
-        print::number(rt, count(kind, list, w))?;
-        tear(rt, kind, letter, places, list, n, w)?;
-        print::end(rt)?;
-        places += 1;
-    }
-    Ok(())
-}
-
-// find: number, record, index and remainder of an address.
-fn find<P: Print>(
-    rt: &P,
-    text: &[u8],
-    line: Line,
-    kind: Kind,
-    address: u64,
-    w: &[u8; 2192],
-) -> io::Result<()> {
-    let found = span_at(address, w);
-    print::kind(rt, kind)?;
-    print::words(rt, text, line.words, line.numbers)?;
-    print::number(rt, address)?;
-    print::number(rt, found.number)?;
-    print::number(rt, found.record)?;
-    print::number(rt, found.index)?;
-    print::number(rt, found.remainder)?;
-    print::end(rt)
-}
-
-// Commands that change the areas by hand, then those that make a call. Any other prints its words.
-fn step<P: Print>(
-    rt: &P,
-    text: &[u8],
-    line: Line,
-    kind: Kind,
-    list: &[u64; 1040],
-    n: usize,
-    w: &mut [u8; 2192],
-) -> io::Result<()> {
-    let command = line.command;
-    match command {
-        b'n' => areas::renew(w, list),
-        b's' => areas::fill(w, SLOTS, list, n),
-        b'r' => areas::fill(w, ROWS, list, n),
-        b'c' => areas::fill(w, CHECKPOINTS, list, n),
-        b'm' | b'k' | b'a' => one(rt, text, line, kind, list, n, w)?,
-        b'l' => list_two(rt, kind, list, n, w)?,
-        b't' => torn(rt, text, line, kind, list, n, w)?,
-        b'f' => find(rt, text, line, kind, list[0], w)?,
-        _ => {
-            print::words(rt, text, plus(line.words, 1), line.numbers)?;
-            print::end(rt)?;
+// One section for one kind, of at most 1,000 lines: what follows it.
+fn section<'a, P: Print>(rt: &P, script: &'a [u8], kind: Kind) -> io::Result<&'a [u8]> {
+    let mut areas = OwnAreas::new();
+    let mut numbers = Numbers::new();
+    let mut left = script;
+    for _ in 0..1000 {
+        let text = left;
+        left = after_line(text);
+        if ends(text) {
+            break;
+        }
+        if meant(text, kind) {
+            let line = Line::of(text);
+            numbers.read(line.numbers);
+            let case = Case {
+                kind,
+                line,
+                numbers: &numbers,
+            };
+            case.run(rt, &mut areas)?;
         }
     }
-    Ok(())
+    Ok(left)
 }
 
-// Whether a line is for this kind: for paired, single or both, by its first letter.
-fn meant(first: u8, kind: Kind) -> bool {
-    match kind {
-        Kind::Paired => first == b'p' || first == b'b',
-        Kind::Single => first == b's' || first == b'b',
-    }
-}
-
-// One section for one kind: where the next begins.
-fn section<P: Print>(rt: &P, text: &[u8], from: usize, kind: Kind) -> io::Result<usize> {
-    let mut w = [9u8; 2192];
-    let mut list = [0u64; 1040];
-    let mut at = from;
-    let mut lines: u64 = 0;
-    while lines < 1000 {
-        let first = byte_at(text, at);
-        let next = plus(found(text, at, b'\n'), 1);
-        if first == b'=' || first == 0 {
-            return Ok(next);
+// At most 100 sections.
+pub fn run<P: Print>(rt: &P, script: &[u8]) -> io::Result<()> {
+    let mut left = script;
+    for _ in 0..100 {
+        if left.is_empty() {
+            break;
         }
-        if meant(first, kind) {
-            let line = line_at(text, at);
-            let n = put_numbers(text, line.numbers, &mut list);
-            step(rt, text, line, kind, &list, n, &mut w)?;
-        }
-        at = next;
-        lines += 1;
-    }
-    Ok(at)
-}
-
-pub fn run<P: Print>(rt: &P, text: &[u8]) -> io::Result<()> {
-    let mut at = 0;
-    let mut sections: u64 = 0;
-    while sections < 100 {
-        if text.len() <= at {
-            return Ok(());
-        }
-        section(rt, text, at, Kind::Paired)?;
-        at = section(rt, text, at, Kind::Single)?;
-        sections += 1;
+        section(rt, left, Kind::Paired)?;
+        left = section(rt, left, Kind::Single)?;
     }
     Ok(())
 }

@@ -1,5 +1,5 @@
 // The paired calls with C linkage: the number is returned, the value stored through `value`.
-// A slice is a pointer and a length in elements.
+// A slice is a pointer and a length in elements. Each call stands here once more for the single kind (delta_loc.rt): the C interface has a name for each.
 ghost use Rattle.loc_leaf.specs.declared.Kind.TheVariants.{Paired};
 ghost use Rattle.std.specs.Prelude.{◌≡◌};
 ghost use Rattle.loc_calls.specs.Areas.{areas};
@@ -12,6 +12,10 @@ ghost use Rattle.loc_calls.specs.Promises.{Stored, Read};
 ghost use Rattle.loc_parse.specs.Import.{append_listing};
 ghost use Rattle.loc_exports.specs.Given.{given, given_span};
 
+use crate::give;
+use loc_calls::{Areas, AreasMut, Batch};
+use loc_leaf::Kind;
+
 // Creation: 1.
 #[unsafe(no_mangle)]
 pub extern "C" fn create_loc_create(
@@ -23,9 +27,12 @@ pub extern "C" fn create_loc_create(
     ensures { Stored (create (areas slots.old rows.old checkpoints.old))
         (given result value.new) (areas slots.new rows.new checkpoints.new) }
 {
-    let a = loc_index::create_loc::create(slots, rows, checkpoints);
-    *value = a.value;
-    a.number
+    let mut areas = AreasMut {
+        slots,
+        rows,
+        checkpoints,
+    };
+    give(loc_index::create(&mut areas), value)
 }
 
 // Opening: 1; 2 to 5.
@@ -39,9 +46,12 @@ pub extern "C" fn create_loc_open(
     ensures { Stored (call Paired 6 opening (areas slots.old rows.old checkpoints.old))
         (given result value.new) (areas slots.new rows.new checkpoints.new) }
 {
-    let a = loc_index::create_loc::open(slots, rows, checkpoints);
-    *value = a.value;
-    a.number
+    let mut areas = AreasMut {
+        slots,
+        rows,
+        checkpoints,
+    };
+    give(loc_index::open(Kind::Paired, &mut areas), value)
 }
 
 // Opening, its first places only.
@@ -56,9 +66,12 @@ pub extern "C" fn create_loc_open_run(
     ensures { Stored (call Paired places opening (areas slots.old rows.old checkpoints.old))
         (given result value.new) (areas slots.new rows.new checkpoints.new) }
 {
-    let a = loc_index::create_loc::open_run(slots, rows, checkpoints, places);
-    *value = a.value;
-    a.number
+    let mut areas = AreasMut {
+        slots,
+        rows,
+        checkpoints,
+    };
+    give(loc_index::open_run(Kind::Paired, &mut areas, places), value)
 }
 
 // Append: 1, 6; 7 to 13, 17 and 22 to 24.
@@ -76,17 +89,18 @@ pub extern "C" fn create_loc_append(
     ensures { Stored (call Paired 4 (append (batch body_starts.now body_lens.now span_starts.now span_counts.now)) (areas slots.old rows.old checkpoints.old))
         (given result value.new) (areas slots.new rows.new checkpoints.new) }
 {
-    let a = loc_index::create_loc::append(
+    let mut areas = AreasMut {
         slots,
         rows,
         checkpoints,
-        body_starts,
-        body_lens,
+    };
+    let batch = Batch {
+        starts: body_starts,
+        lens: body_lens,
         span_starts,
         span_counts,
-    );
-    *value = a.value;
-    a.number
+    };
+    give(loc_index::append(Kind::Paired, &mut areas, batch), value)
 }
 
 // Append, its first places only.
@@ -105,18 +119,21 @@ pub extern "C" fn create_loc_append_run(
     ensures { Stored (call Paired places (append (batch body_starts.now body_lens.now span_starts.now span_counts.now)) (areas slots.old rows.old checkpoints.old))
         (given result value.new) (areas slots.new rows.new checkpoints.new) }
 {
-    let a = loc_index::create_loc::append_run(
+    let mut areas = AreasMut {
         slots,
         rows,
         checkpoints,
-        body_starts,
-        body_lens,
+    };
+    let batch = Batch {
+        starts: body_starts,
+        lens: body_lens,
         span_starts,
         span_counts,
-        places,
-    );
-    *value = a.value;
-    a.number
+    };
+    give(
+        loc_index::append_run(Kind::Paired, &mut areas, batch, places),
+        value,
+    )
 }
 
 // A listing appended: 1, 6; 18 to 20; 8 to 13, 17 and 22 to 24.
@@ -131,9 +148,12 @@ pub extern "C" fn create_loc_append_listing(
     ensures { Stored (append_listing 4 text.now (areas slots.old rows.old checkpoints.old))
         (given result value.new) (areas slots.new rows.new checkpoints.new) }
 {
-    let a = loc_index::create_loc::append_listing(slots, rows, checkpoints, text);
-    *value = a.value;
-    a.number
+    let mut areas = AreasMut {
+        slots,
+        rows,
+        checkpoints,
+    };
+    give(loc_index::append_listing(&mut areas, text), value)
 }
 
 // A listing appended, its first places only.
@@ -149,9 +169,15 @@ pub extern "C" fn create_loc_append_listing_run(
     ensures { Stored (append_listing places text.now (areas slots.old rows.old checkpoints.old))
         (given result value.new) (areas slots.new rows.new checkpoints.new) }
 {
-    let a = loc_index::create_loc::append_listing_run(slots, rows, checkpoints, text, places);
-    *value = a.value;
-    a.number
+    let mut areas = AreasMut {
+        slots,
+        rows,
+        checkpoints,
+    };
+    give(
+        loc_index::append_listing_run(&mut areas, text, places),
+        value,
+    )
 }
 
 // Truncation: 1, 6; 14.
@@ -166,9 +192,15 @@ pub extern "C" fn create_loc_truncate(
     ensures { Stored (call Paired 3 (truncate count) (areas slots.old rows.old checkpoints.old))
         (given result value.new) (areas slots.new rows.new checkpoints.new) }
 {
-    let a = loc_index::create_loc::truncate_to_count(slots, rows, checkpoints, count);
-    *value = a.value;
-    a.number
+    let mut areas = AreasMut {
+        slots,
+        rows,
+        checkpoints,
+    };
+    give(
+        loc_index::truncate_to_count(Kind::Paired, &mut areas, count),
+        value,
+    )
 }
 
 // Truncation, its first places only.
@@ -184,9 +216,15 @@ pub extern "C" fn create_loc_truncate_run(
     ensures { Stored (call Paired places (truncate count) (areas slots.old rows.old checkpoints.old))
         (given result value.new) (areas slots.new rows.new checkpoints.new) }
 {
-    let a = loc_index::create_loc::truncate_to_count_run(slots, rows, checkpoints, count, places);
-    *value = a.value;
-    a.number
+    let mut areas = AreasMut {
+        slots,
+        rows,
+        checkpoints,
+    };
+    give(
+        loc_index::truncate_to_count_run(Kind::Paired, &mut areas, count, places),
+        value,
+    )
 }
 
 // Reading: 1, 6; 15, 16, 17.
@@ -202,9 +240,15 @@ pub extern "C" fn create_loc_read(
     ensures { Read (call Paired 0 (read wanted.now answers.old) (areas slots.now rows.now checkpoints.now))
         (given result value.new) answers.new }
 {
-    let a = loc_index::create_loc::range_batch(slots, rows, checkpoints, wanted, answers);
-    *value = a.value;
-    a.number
+    let areas = Areas {
+        slots,
+        rows,
+        checkpoints,
+    };
+    give(
+        loc_index::range_batch(Kind::Paired, areas, wanted, answers),
+        value,
+    )
 }
 
 // Audit: 1, 6.
@@ -217,9 +261,12 @@ pub extern "C" fn create_loc_audit(
 ) -> u64
     ensures { given result value.new ≡ (audit Paired (areas slots.now rows.now checkpoints.now)).answer }
 {
-    let a = loc_index::create_loc::audit(slots, rows, checkpoints);
-    *value = a.value;
-    a.number
+    let areas = Areas {
+        slots,
+        rows,
+        checkpoints,
+    };
+    give(loc_index::audit(Kind::Paired, areas), value)
 }
 
 // How many records are durable: 1, 6.
@@ -233,9 +280,15 @@ pub extern "C" fn create_loc_withheld_ovf_limit(
 ) -> u64
     ensures { given result value.new ≡ (withheld Paired durable (areas slots.now rows.now checkpoints.now)).answer }
 {
-    let a = loc_index::create_loc::withheld_ovf_limit(slots, rows, checkpoints, durable);
-    *value = a.value;
-    a.number
+    let areas = Areas {
+        slots,
+        rows,
+        checkpoints,
+    };
+    give(
+        loc_index::withheld_ovf_limit(Kind::Paired, areas, durable),
+        value,
+    )
 }
 
 // Whose crossing is at an address: 1, 6; 17, 21.
@@ -251,11 +304,26 @@ pub extern "C" fn create_loc_span_at(
 ) -> u64
     ensures { given_span result «record».new index.new remainder.new ≡ span_at (areas slots.now rows.now checkpoints.now) address }
 {
-    let a = loc_index::create_loc::span_at(slots, rows, checkpoints, address);
-    *record = a.record;
-    *index = a.index;
-    *remainder = a.remainder;
-    a.number
+    let areas = Areas {
+        slots,
+        rows,
+        checkpoints,
+    };
+    let found = loc_index::span_at(areas, address);
+    match found {
+        Ok(at) => {
+            *record = at.record;
+            *index = at.index;
+            *remainder = at.remainder;
+            0
+        }
+        Err(r) => {
+            *record = 0;
+            *index = 0;
+            *remainder = 0;
+            u64::from(r)
+        }
+    }
 }
 
 // What a record needs by pairs: 1, 6; 7, 15; 27, 28, 29; 16.
@@ -272,15 +340,13 @@ pub extern "C" fn create_loc_parts(
 ) -> u64
     ensures { Read (parts composites.now components.now «record» answers.old (areas slots.now rows.now checkpoints.now)) (given result value.new) answers.new }
 {
-    let a = loc_index::create_loc::parts(
+    let areas = Areas {
         slots,
         rows,
         checkpoints,
-        composites,
-        components,
-        record,
-        answers,
-    );
-    *value = a.value;
-    a.number
+    };
+    give(
+        loc_index::parts(areas, composites, components, record, answers),
+        value,
+    )
 }

@@ -9,6 +9,10 @@ ghost use Rattle.loc_calls.specs.Withheld.{withheld};
 ghost use Rattle.loc_calls.specs.Promises.{Stored, Read};
 ghost use Rattle.loc_exports.specs.Given.{given};
 
+use crate::give;
+use loc_calls::{Areas, AreasMut, Batch};
+use loc_leaf::Kind;
+
 // Creation: 1.
 #[unsafe(no_mangle)]
 pub extern "C" fn delta_loc_create(
@@ -20,9 +24,12 @@ pub extern "C" fn delta_loc_create(
     ensures { Stored (create (areas slots.old rows.old checkpoints.old))
         (given result value.new) (areas slots.new rows.new checkpoints.new) }
 {
-    let a = loc_index::delta_loc::create(slots, rows, checkpoints);
-    *value = a.value;
-    a.number
+    let mut areas = AreasMut {
+        slots,
+        rows,
+        checkpoints,
+    };
+    give(loc_index::create(&mut areas), value)
 }
 
 // Opening: 1; 2 to 5.
@@ -36,9 +43,12 @@ pub extern "C" fn delta_loc_open(
     ensures { Stored (call Single 6 opening (areas slots.old rows.old checkpoints.old))
         (given result value.new) (areas slots.new rows.new checkpoints.new) }
 {
-    let a = loc_index::delta_loc::open(slots, rows, checkpoints);
-    *value = a.value;
-    a.number
+    let mut areas = AreasMut {
+        slots,
+        rows,
+        checkpoints,
+    };
+    give(loc_index::open(Kind::Single, &mut areas), value)
 }
 
 // Opening, its first places only.
@@ -53,9 +63,12 @@ pub extern "C" fn delta_loc_open_run(
     ensures { Stored (call Single places opening (areas slots.old rows.old checkpoints.old))
         (given result value.new) (areas slots.new rows.new checkpoints.new) }
 {
-    let a = loc_index::delta_loc::open_run(slots, rows, checkpoints, places);
-    *value = a.value;
-    a.number
+    let mut areas = AreasMut {
+        slots,
+        rows,
+        checkpoints,
+    };
+    give(loc_index::open_run(Kind::Single, &mut areas, places), value)
 }
 
 // Append: 1, 6; 7, 9 to 11, 13, 17, 22 and 23.
@@ -71,9 +84,18 @@ pub extern "C" fn delta_loc_append(
     ensures { Stored (call Single 4 (append (batch starts.now lens.now [] [])) (areas slots.old rows.old checkpoints.old))
         (given result value.new) (areas slots.new rows.new checkpoints.new) }
 {
-    let a = loc_index::delta_loc::append(slots, rows, checkpoints, starts, lens);
-    *value = a.value;
-    a.number
+    let mut areas = AreasMut {
+        slots,
+        rows,
+        checkpoints,
+    };
+    let batch = Batch {
+        starts,
+        lens,
+        span_starts: &[],
+        span_counts: &[],
+    };
+    give(loc_index::append(Kind::Single, &mut areas, batch), value)
 }
 
 // Append, its first places only.
@@ -90,9 +112,21 @@ pub extern "C" fn delta_loc_append_run(
     ensures { Stored (call Single places (append (batch starts.now lens.now [] [])) (areas slots.old rows.old checkpoints.old))
         (given result value.new) (areas slots.new rows.new checkpoints.new) }
 {
-    let a = loc_index::delta_loc::append_run(slots, rows, checkpoints, starts, lens, places);
-    *value = a.value;
-    a.number
+    let mut areas = AreasMut {
+        slots,
+        rows,
+        checkpoints,
+    };
+    let batch = Batch {
+        starts,
+        lens,
+        span_starts: &[],
+        span_counts: &[],
+    };
+    give(
+        loc_index::append_run(Kind::Single, &mut areas, batch, places),
+        value,
+    )
 }
 
 // Truncation: 1, 6; 14.
@@ -107,9 +141,15 @@ pub extern "C" fn delta_loc_truncate(
     ensures { Stored (call Single 3 (truncate count) (areas slots.old rows.old checkpoints.old))
         (given result value.new) (areas slots.new rows.new checkpoints.new) }
 {
-    let a = loc_index::delta_loc::truncate_to_count(slots, rows, checkpoints, count);
-    *value = a.value;
-    a.number
+    let mut areas = AreasMut {
+        slots,
+        rows,
+        checkpoints,
+    };
+    give(
+        loc_index::truncate_to_count(Kind::Single, &mut areas, count),
+        value,
+    )
 }
 
 // Truncation, its first places only.
@@ -125,9 +165,15 @@ pub extern "C" fn delta_loc_truncate_run(
     ensures { Stored (call Single places (truncate count) (areas slots.old rows.old checkpoints.old))
         (given result value.new) (areas slots.new rows.new checkpoints.new) }
 {
-    let a = loc_index::delta_loc::truncate_to_count_run(slots, rows, checkpoints, count, places);
-    *value = a.value;
-    a.number
+    let mut areas = AreasMut {
+        slots,
+        rows,
+        checkpoints,
+    };
+    give(
+        loc_index::truncate_to_count_run(Kind::Single, &mut areas, count, places),
+        value,
+    )
 }
 
 // Reading: 1, 6; 15, 16, 17.
@@ -143,9 +189,15 @@ pub extern "C" fn delta_loc_read(
     ensures { Read (call Single 0 (read wanted.now answers.old) (areas slots.now rows.now checkpoints.now))
         (given result value.new) answers.new }
 {
-    let a = loc_index::delta_loc::range_batch(slots, rows, checkpoints, wanted, answers);
-    *value = a.value;
-    a.number
+    let areas = Areas {
+        slots,
+        rows,
+        checkpoints,
+    };
+    give(
+        loc_index::range_batch(Kind::Single, areas, wanted, answers),
+        value,
+    )
 }
 
 // Audit: 1, 6.
@@ -158,9 +210,12 @@ pub extern "C" fn delta_loc_audit(
 ) -> u64
     ensures { given result value.new ≡ (audit Single (areas slots.now rows.now checkpoints.now)).answer }
 {
-    let a = loc_index::delta_loc::audit(slots, rows, checkpoints);
-    *value = a.value;
-    a.number
+    let areas = Areas {
+        slots,
+        rows,
+        checkpoints,
+    };
+    give(loc_index::audit(Kind::Single, areas), value)
 }
 
 // How many records are durable: 1, 6.
@@ -174,7 +229,13 @@ pub extern "C" fn delta_loc_withheld_ovf_limit(
 ) -> u64
     ensures { given result value.new ≡ (withheld Single durable (areas slots.now rows.now checkpoints.now)).answer }
 {
-    let a = loc_index::delta_loc::withheld_ovf_limit(slots, rows, checkpoints, durable);
-    *value = a.value;
-    a.number
+    let areas = Areas {
+        slots,
+        rows,
+        checkpoints,
+    };
+    give(
+        loc_index::withheld_ovf_limit(Kind::Single, areas, durable),
+        value,
+    )
 }

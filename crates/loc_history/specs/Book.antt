@@ -3,16 +3,14 @@
 use Rattle.std.specs.Prelude.{ℕ, zero, suc, ◌+◌, ◌-◌, ◌*◌, ◌/◌, Bool, false, cond, ◌&&◌, List, [], ◌∷◌, ◌++◌, map, leb, length, take, get_or, replicate}
 use Rattle.loc_leaf.specs.declared.Kind.{Kind}
 use Rattle.loc_leaf.specs.declared.Kind.TheVariants.{Paired, Single}
-use Rattle.loc_leaf.specs.declared.Answer.{Answer}
-use Rattle.loc_leaf.specs.Answers.{answer}
+use Rattle.loc_leaf.specs.Answers.{answer, Answer}
 use Rattle.loc_leaf.specs.Kind.{row_width, checkpoint_width}
 use Rattle.loc_leaf.specs.Slot.{stored_as_zero}
-use Rattle.loc_calls.specs.declared.SpanAt.{SpanAt}
+use Rattle.loc_calls.specs.SpanAt.{Crossing, span_among}
 use Rattle.loc_calls.specs.Areas.{Three}
 use Rattle.loc_calls.specs.Table.{Entry, Batch, Call, opening, append, truncate, read, entries, word_width, ListEnd, table}
 use Rattle.loc_calls.specs.Reading.{within}
 use Rattle.loc_calls.specs.Calls.{unless_refused, value, lent, buffer}
-use Rattle.loc_calls.specs.SpanAt.{span_among}
 use Rattle.loc_calls.specs.Parts.{needed, parts_table, written}
 use Rattle.loc_calls.specs.Withheld.{limited}
 
@@ -103,7 +101,7 @@ book_reply k size L c = record {
 }
 
 -- whose crossing is at address x (document 02, Item 2): by the words of its own list
-unfoldable pub book_span_at : List Rec → ℕ → SpanAt
+unfoldable pub book_span_at : List Rec → ℕ → Crossing
 book_span_at L x = span_among (book_words Paired L) (length L) x
 
 -- what record x needs by pairs (document 02, Item 9): of its own list only the length counts

@@ -3,10 +3,11 @@
 use Prim.Native.Nat.{ℕ, zero, suc, ◌+◌, ◌-◌, ◌*◌, ◌/◌, ◌%◌, ◌^◌, ◌≤◌, ◌<◌, min}
 use mathlib.Core.Path.{◌≡◌, refl, sym, ap, ◌∙◌}
 use mathlib.Core.List.{List, [], ◌∷◌, ◌++◌, append_assoc, flatten}
-use native.Mathlib.Nat.{mul_comm, mul-zero, mul-suc, zero-div, zero-mod, div-zero, mod-zero, div-mul-le_self, zero-add, suc-add, le_of_suc-le-suc, not-suc-le-zero, add_comm, zero-min, min-zero, suc-min-suc}
+use native.Mathlib.Nat.{mul_comm, mul-zero, mul-suc, div-zero, mod-zero, div-mul-le_self, zero-add, suc-add, le_of_suc-le-suc, not-suc-le-zero, add_comm, zero-min, min-zero, suc-min-suc}
 use native.Mathlib.Omega.{arith}
 use lib.ListN.{length, take, drop, get_or, length-append, length-take}
 use lib.Seq.{take_at, drop_at, take-take, drop-drop, take-nil}
+use Rattle.std.specs.Prelude.{Option, Some, None, SomeIff, unwrap_or}
 use Rattle.loc_leaf.specs.Bytes.{Bytes, bytes, number_at, store}
 use Rattle.loc_leaf.specs.Area.{counted, store_length, store_past, pieces, fill, InPieces}
 use Rattle.loc_leaf.proofs.Stored.{length_bytes, at_first, length_store, take_store, drop_store, drop_stored}
@@ -54,26 +55,27 @@ counted_ge xs h = omega arith
 
 -- ---- what is published, in pieces
 
-module _ (w : ℕ) (xs : Bytes) (end : ℕ) (e : end ≡ counted xs) where
-  pub in_no_pieces : end < 16 → InPieces w xs (record { end = end; count = 0; left = 0 })
-  unfolding fill
-  in_no_pieces h =
-      let z : counted xs - 16 ≡ 0 = omega arith in
-      record { end = e; count = rw z (sym (zero-div w)); left = rw z (sym (zero-mod w)); inside = omega (arith, counted_le xs); room = rw (mul-zero w) (omega arith) }
+-- a division that is checked gives the quotient and the remainder, which by 0 are 0 and the whole
+quotient : (o : Option ℕ) (n w : ℕ) → SomeIff o (0 < w) (n / w) → unwrap_or o 0 ≡ n / w
+quotient None n zero h = sym (div-zero n)
+quotient None n (suc w) h = absurd (h (omega arith))
+quotient (Some q) n w h = h.1
 
-  pub in_width_0 : w ≡ 0 → InPieces w xs (record { end = end; count = 0; left = end - 16 })
-  unfolding fill
-  in_width_0 h =
-      record { end = e; count = rw h (sym (div-zero _)); left = rw (e, h) (sym (mod-zero _)); inside = omega (arith, counted_le xs); room = rw (mul-zero w) (omega arith) }
+remainder : (o : Option ℕ) (n w : ℕ) → SomeIff o (0 < w) (n % w) → unwrap_or o n ≡ n % w
+remainder None n zero h = sym (mod-zero n)
+remainder None n (suc w) h = absurd (h (omega arith))
+remainder (Some q) n w h = h.1
 
-  pub in_pieces : InPieces w xs (record { end = end; count = (end - 16) / w; left = (end - 16) % w })
+module _ (w : ℕ) (xs : Bytes) (end : ℕ) (e : end ≡ counted xs) (q r : Option ℕ) where
+  pub in_pieces : SomeIff q (0 < w) ((end - 16) / w) → SomeIff r (0 < w) ((end - 16) % w)
+      → InPieces w xs (record { end = end; count = unwrap_or q 0; left = unwrap_or r (end - 16) })
   unfolding fill
-  in_pieces = record {
+  in_pieces f g = record {
     end = e;
-    count = rw e refl;
-    left = rw e refl;
+    count = quotient q (end - 16) w f ∙ rw e refl;
+    left = remainder r (end - 16) w g ∙ rw e refl;
     inside = omega (arith, counted_le xs);
-    room = omega (arith, mul_comm w ((end - 16) / w), div-mul-le_self (end - 16) w, counted_le xs);
+    room = rw (quotient q (end - 16) w f) (omega (arith, mul_comm w ((end - 16) / w), div-mul-le_self (end - 16) w, counted_le xs));
   }
 
 -- ---- a stored length

@@ -5,9 +5,9 @@ use mathlib.Core.Path.{◌≡◌, refl, sym, ◌∙◌}
 use mathlib.Core.List.{[], ◌∷◌}
 use native.Mathlib.Numerals.{add-one}
 use native.Mathlib.Omega.{arith}
-use lib.ListN.{length, take, drop, set, length-drop, drop_of_length-le, get_or-eq_default}
-use lib.Seq.{take_all, take-nil, set_out, sets}
-use Rattle.loc_leaf.specs.Bytes.{Bytes, byte, number, bytes, number_at, store}
+use lib.ListN.{length, take, drop, set}
+use lib.Seq.{take-nil, set_out, sets}
+use Rattle.loc_leaf.specs.Bytes.{Bytes, byte, number, bytes, store}
 
 -- ---- reading
 
@@ -35,22 +35,6 @@ module _ (xs : Bytes) where
   eight_are r a b c d e f g h p₀ p₁ p₂ p₃ p₄ p₅ p₆ p₇ q =
       omega (arith, spelled 7 0 xs, spelled 6 1 xs, spelled 5 2 xs, spelled 4 3 xs, spelled 3 4 xs, spelled 2 5 xs, spelled 1 6 xs, spelled 0 7 xs)
 
--- the rest of a slice from a place on is all that is dropped to
-pub part_all : (at : ℕ) (xs : Bytes) → take (length xs - at) (drop at xs) ≡ drop at xs
-part_all at xs = take_all (length xs - at) (drop at xs) (rw (length-drop at xs) (omega arith))
-
-module _ (n at : ℕ) (xs : Bytes) where
-  pub number_past : length xs < at → 0 ≡ number_at n at xs
-  unfolding number_at number
-  number_past h = let g : length xs ≤ at = omega arith in rw (drop_of_length-le xs g, take-nil n) refl
-
-  pub number_part : (r : ℕ) → r ≡ number (take n (take (length xs - at) (drop at xs))) → r ≡ number_at n at xs
-  unfolding number_at
-  number_part r e = rw (part_all at xs) at e
-
-pub byte_past : (at : ℕ) (xs : Bytes) → length xs ≤ at → 0 ≡ byte at xs
-byte_past at xs h = sym (get_or-eq_default xs 0 h)
-
 -- ---- storing
 
 pub sets_past : (xs : Bytes) (to : ℕ) (vs : Bytes) → length xs ≤ to → sets xs to vs ≡ xs
@@ -58,17 +42,13 @@ sets_past xs to [] h = refl
 sets_past xs to (v ∷ vs) h = rw (set_out xs to v h) (sets_past xs (suc to) vs (omega arith))
 
 -- what is left to store, on what is stored so far, is the whole
-pub put_turn : (s : Bytes) (to left rest : ℕ) → 0 < left
-    → store to (bytes left rest) s ≡ store (to + 1) (bytes (left - 1) (rest / 256)) (set s to (rest % 256))
+pub put_turn : (s : Bytes) (to end rest : ℕ) → to < end
+    → store to (bytes (end - to) rest) s ≡ store (to + 1) (bytes (end - (to + 1)) (rest / 256)) (set s to (rest % 256))
 unfolding store bytes
-put_turn s to zero rest h = absurd (omega arith)
-put_turn s to (suc k) rest h = let e : suc k - 1 ≡ k = omega arith in rw (add-one to, e)
+put_turn s to end rest h = let e : end - to ≡ suc (end - (to + 1)) = omega arith in rw (e, add-one to) refl
 
-pub put_out : (s whole : Bytes) (to left rest : ℕ) → whole ≡ store to (bytes left rest) s → length s ≤ to → s ≡ whole
-unfolding store
-put_out s whole to left rest e h = sym (e ∙ sets_past s to (bytes left rest) h)
-
-pub put_end : (s whole : Bytes) (to left rest : ℕ) → whole ≡ store to (bytes left rest) s → left ≤ 0 → s ≡ whole
+-- nothing is left, or no place
+pub put_done : (s whole : Bytes) (to left rest : ℕ) → whole ≡ store to (bytes left rest) s → (to < length s → left ≤ 0) → s ≡ whole
 unfolding store bytes
-put_end s whole to zero rest e h = sym e
-put_end s whole to (suc k) rest e h = absurd (omega arith)
+put_done s whole to zero rest e h = sym e
+put_done s whole to (suc k) rest e h = sym (e ∙ sets_past s to (bytes (suc k) rest) (grind arith))

@@ -4,7 +4,9 @@ use Prim.Native.Nat.{ℕ, zero, suc}
 use mathlib.Core.Path.{◌≡◌, refl}
 use mathlib.Core.Bool.{Bool, true, false}
 use native.Mathlib.Nat.{suc-ne-zero}
-use Rattle.loc_leaf.specs.Answers.{refuse, ◌or_else◌}
+use Rattle.loc_leaf.specs.declared.refusal.Refusal.{Refusal}
+use Rattle.loc_leaf.specs.Answers.{refuse, ◌or_else◌, number_of}
+use native.Mathlib.Omega.{arith}
 
 pub or_else_first : (x y : ℕ) → (x ≡ 0 → ⊥) → (x or_else y) ≡ x
 or_else_first zero y h = absurd (h refl)
@@ -41,3 +43,9 @@ or_else_holds P {n = suc n} p q = p
 pub refuse_holds : (P : ℕ → Type 0) (n : ℕ) (b : Bool) → P 0 → P n → P (refuse b n)
 refuse_holds P n true z p = p
 refuse_holds P n false z p = z
+
+-- ---- what code returns
+
+-- 0 is no refusal's number
+pub number_some : (r : Refusal) → number_of r ≡ 0 → ⊥
+number_some r h = grind arith

@@ -1,5 +1,6 @@
 -- Rows of an area in the form in which the code meets them, and what the search by halves finds where rows ascend.
 -- The width is the kind's; a row is a piece of that width.
+use Rattle.std.specs.Prelude.{Some, None}
 use Prim.Native.Nat.{ℕ, zero, suc, ◌+◌, ◌-◌, ◌*◌, ◌/◌, ◌≤◌, ◌<◌}
 use mathlib.Core.Path.{◌≡◌, refl, sym, ap, ◌∙◌}
 use mathlib.Core.Logic.{◌⊎◌, inl, inr, ⊎_elim}
@@ -14,7 +15,6 @@ use lib.Seq.{take-take, drop-drop}
 use borrow.Author.Tests.{lt-ltb, le-ltb, le-leb, lt-leb, eq-eqb, ne_eqb, ltb-true, ltb-false, leb-true, leb-false}
 use Rattle.loc_leaf.specs.declared.Kind.{Kind}
 use Rattle.loc_leaf.specs.declared.Kind.TheVariants.{Paired, Single}
-use Rattle.loc_leaf.specs.declared.delta_loc.Lookup.TheVariants.{Found, Missing}
 use Rattle.loc_leaf.specs.Bytes.{Bytes, number, number_at}
 use Rattle.loc_leaf.specs.Area.{counted, pieces, fill, published}
 use Rattle.loc_leaf.specs.Kind.{row_width}
@@ -23,15 +23,6 @@ use Rattle.loc_leaf.proofs.Booleans.{both_left, both_right, is?}
 use Rattle.loc_leaf.proofs.AreaLaws.{take_drop, counted_le, length_pieces, pieces_get}
 
 -- ---- a row's fields
-
-module _ (k : Kind) (row : Bytes) (s : ℕ) (es : s ≡ number_at 4 8 row) where
-  pub value_paired : (n : ℕ) → k ≡ Paired → n ≡ number_at 4 12 row → record { strides = s; spans = n } ≡ row_value k row
-  unfolding row_value
-  value_paired n e en = rw (e, es, en) refl
-
-  pub value_single : k ≡ Single → record { strides = s; spans = 0 } ≡ row_value k row
-  unfolding row_value
-  value_single e = rw (e, es) refl
 
 -- a field lies within the row
 pub field_in : (n at w : ℕ) (xs : Bytes) → at + n ≤ w → number_at n at (take w xs) ≡ number_at n at xs
@@ -48,13 +39,6 @@ piece_value Paired xs = rw (field_in 4 8 16 xs (omega arith), field_in 4 12 16 x
 piece_value Single xs = rw (field_in 4 8 12 xs (omega arith)) refl
 
 -- ---- how many there are
-
-module _ (k : Kind) (xs : Bytes) (n : ℕ) where
-  pub count_paired : k ≡ Paired → n ≡ fill 16 xs → n ≡ fill (row_width k) xs
-  count_paired q e = rw q e
-
-  pub count_single : k ≡ Single → n ≡ fill 12 xs → n ≡ fill (row_width k) xs
-  count_single q e = rw q e
 
 -- the rows lie within the area
 pub rows_room : (k : Kind) (xs : Bytes) (w n : ℕ) → w ≡ row_width k → n ≡ fill (row_width k) xs → w * n ≤ length xs - 16
@@ -306,12 +290,12 @@ has_first n (suc q) (r ∷ rs) g e h =
 
 module _ (k : Kind) (rs : List Bytes) (n : ℕ) where
   -- no row has the number
-  pub lookup_none : ((i : ℕ) → i < length rs → number_in rs i ≡ n → ⊥) → lookup k n rs ≡ Missing
+  pub lookup_none : ((i : ℕ) → i < length rs → number_in rs i ≡ n → ⊥) → lookup k n rs ≡ None
   unfolding lookup
   lookup_none h = rw (has_none n rs h) refl
 
   -- the row that has it, where rows ascend
-  pub lookup_at_lem : (i : ℕ) → ascending 0 rs ≡ true → i < length rs → number_in rs i ≡ n → lookup k n rs ≡ Found (row_value k (get_or rs i []))
+  pub lookup_at_lem : (i : ℕ) → ascending 0 rs ≡ true → i < length rs → number_in rs i ≡ n → lookup k n rs ≡ Some (row_value k (get_or rs i []))
   unfolding lookup
   lookup_at_lem i a h e = rw (it.0, it.1) refl
     where

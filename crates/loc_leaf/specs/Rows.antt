@@ -1,11 +1,9 @@
 -- Overflow rows: their fields, their order, and the row of a record (document 01, "delta_loc.rs, leaf part").
 -- A list of rows is what an area publishes in pieces of the kind's row width.
-use Rattle.std.specs.Prelude.{ℕ, zero, suc, ◌+◌, ◌-◌, ◌/◌, Bool, true, false, cond, ◌&&◌, ◌||◌, List, [], ◌∷◌, ◌++◌, leb, ltb, eqb, length, get_or}
+use Rattle.std.specs.Prelude.{ℕ, zero, suc, ◌+◌, ◌-◌, ◌/◌, Bool, true, false, cond, ◌&&◌, ◌||◌, List, [], ◌∷◌, ◌++◌, leb, ltb, eqb, length, get_or, Option, Some, None}
 use Rattle.loc_leaf.specs.declared.Kind.{Kind}
 use Rattle.loc_leaf.specs.declared.Kind.TheVariants.{Paired, Single}
 use Rattle.loc_leaf.specs.declared.Value.{Value}
-use Rattle.loc_leaf.specs.declared.delta_loc.Lookup.{Lookup}
-use Rattle.loc_leaf.specs.declared.delta_loc.Lookup.TheVariants.{Found, Missing}
 use Rattle.loc_leaf.specs.Bytes.{Bytes, bytes, number_at}
 use Rattle.loc_leaf.specs.Area.{published}
 use Rattle.loc_leaf.specs.Kind.{row_width}
@@ -52,17 +50,17 @@ has_row n [] = false
 has_row n (r ∷ rs) = eqb (row_number r) n || has_row n rs
 
 -- the row with this number
-unfoldable pub lookup : Kind → ℕ → List Bytes → Lookup
-lookup k n rs = cond (has_row n rs) (Found (row_value k (row_for n rs))) Missing
+unfoldable pub lookup : Kind → ℕ → List Bytes → Option Value
+lookup k n rs = cond (has_row n rs) (Some (row_value k (row_for n rs))) None
 
 -- if a slot needs a row, both values come from the row
-unfoldable pub slot_value : Kind → List Bytes → ℕ → Bytes → Lookup
-slot_value k rs id s = cond (needs_row k s) (lookup k id rs) (Found (inline k s))
+unfoldable pub slot_value : Kind → List Bytes → ℕ → Bytes → Option Value
+slot_value k rs id s = cond (needs_row k s) (lookup k id rs) (Some (inline k s))
 
 -- the values of each case: no strides and spans where the row is missing
-unfoldable pub value_in : Lookup → Value
-value_in (Found v) = v
-value_in Missing = record { strides = 0; spans = 0 }
+unfoldable pub value_in : Option Value → Value
+value_in (Some v) = v
+value_in None = record { strides = 0; spans = 0 }
 
 -- ---- the search by halves: what it gives for any rows; where they ascend, rows_up_to (proofs/RowLaws)
 

@@ -4,9 +4,8 @@ use Rattle.std.specs.Prelude.{ℕ, ◌+◌, ◌-◌, ◌*◌, ◌/◌, ◌%◌, 
 use Rattle.loc_leaf.specs.declared.Kind.{Kind}
 use Rattle.loc_leaf.specs.declared.Kind.TheVariants.{Paired, Single}
 use Rattle.loc_leaf.specs.declared.Value.{Value}
-use Rattle.loc_leaf.specs.declared.Answer.{Answer}
 use Rattle.loc_leaf.specs.Bytes.{Bytes, byte, bytes}
-use Rattle.loc_leaf.specs.Answers.{refuse, ◌or_else◌, answer}
+use Rattle.loc_leaf.specs.Answers.{refuse, ◌or_else◌, answer, Answer}
 
 -- 22: length 0; 9: length no multiple of 8; 10: more than 2^32 − 1 strides
 unfoldable pub strides_refusal : ℕ → ℕ

@@ -1,7 +1,8 @@
 // Strides, slots, the checkpoint and cut rules, and overflow rows (delta_loc.rs, leaf part).
 // A row area is handed over whole; its published rows are counted here.
-ghost use Rattle.std.specs.Prelude.{◌≡◌, cond, [], ◌∷◌, ◌+◌, ◌-◌, ◌*◌, ◌^◌, ◌≤◌, ◌<◌, min, max};
+ghost use Rattle.std.specs.Prelude.{◌≡◌, cond, [], ◌∷◌, ◌+◌, ◌-◌, ◌*◌, ◌^◌, ◌≤◌, ◌<◌, min, max, IfOk};
 ghost use Rattle.loc_leaf.specs.Bytes.{byte};
+ghost use Rattle.loc_leaf.specs.Answers.{answer_of};
 ghost use Rattle.loc_leaf.specs.Area.{fill};
 ghost use Rattle.loc_leaf.specs.Kind.{row_width, checkpoint_width, window_of, within_window};
 ghost use Rattle.loc_leaf.specs.Slot.{strides_from, below, slot, needs_row, inline, slot_at, checkpoint_rule};
@@ -9,8 +10,8 @@ ghost use Rattle.loc_leaf.specs.Rows.{row_value, row_list, rows_up_to_by_halves}
 ghost use Rattle.loc_leaf.specs.Cut.{agrees, overflows, matches, cut_for};
 
 use crate::file::{FILE_HEADER_LEN, byte_at, published, u32_at, u64_at};
-use crate::refusal::{BODY_EMPTY, LENGTH_NOT_PADDED, TOO_MANY_STRIDES, accepted, refused};
-use crate::{Answer, Kind, Value};
+use crate::refusal::Refusal;
+use crate::{Kind, Value};
 
 // Bytes of a stride.
 pub const IDX_STRIDE: u64 = 8;
@@ -22,13 +23,6 @@ pub const LOC_WINDOW: u64 = 1024;
 pub const ROW_STRIDES: usize = 8;
 
 pub const ROW_SPANS: usize = 12;
-
-// What a search for a record's row, or a slot's values, finds.
-#[derive(Clone, Copy)]
-pub enum Lookup {
-    Found(Value),
-    Missing,
-}
 
 pub fn row_width(kind: Kind) -> usize
     ensures { (result ≡ row_width kind) × (12 ≤ result) × (result ≤ 16) }
@@ -48,111 +42,67 @@ pub fn checkpoint_width(kind: Kind) -> usize
     }
 }
 
-pub fn lesser(a: u64, b: u64) -> u64
-    ensures { result ≡ min a b }
-{
-    if b < a { b } else { a }
-}
-
-pub fn larger(a: u64, b: u64) -> u64
-    ensures { result ≡ max a b }
-{
-    if b < a { a } else { b }
-}
-
-// 1 where a test holds, else 0: a count without a branch.
-pub fn one_if(c: bool) -> usize
-    ensures { (result ≡ cond c 1 0) × (result ≤ 1) }
-{
-    if c { 1 } else { 0 }
-}
-
-// A sum that stops at the largest number.
-pub fn saturating_add(a: u64, b: u64) -> u64
-    ensures { result ≡ min (2 ^ 64 - 1) (a + b) }
-{
-    let room = 0xffff_ffff_ffff_ffff - a;
-    if room < b {
-        return 0xffff_ffff_ffff_ffff;
-    }
-    a + b
-}
-
 pub fn loc_window(id: u64) -> u64
     ensures { result ≡ window_of id }
 {
-    if id == 0 { 0 } else { (id - 1) / LOC_WINDOW }
+    id.saturating_sub(1) / LOC_WINDOW
 }
 
 pub fn loc_within(id: u64) -> usize
     ensures { (result ≡ within_window id) × (result < 1024) }
 {
-    if id == 0 {
-        0
-    } else {
-        ((id - 1) % LOC_WINDOW) as usize
-    }
+    (id.saturating_sub(1) % LOC_WINDOW) as usize
 }
 
-pub fn strides_from_aligned_len(len: u64) -> Answer
-    ensures { (result ≡ strides_from len) × (result.value < 2 ^ 32) }
+#[tactic(auto, unfolding(crate::specs::Slot::strides_from, crate::specs::Slot::strides_refusal, crate::specs::Answers::answer))]
+pub fn strides_from_aligned_len(len: u64) -> Result<u64, Refusal>
+    ensures { (answer_of result ≡ strides_from len) × IfOk result (λ v. v < 2 ^ 32) }
 {
     if len == 0 {
-        return refused(BODY_EMPTY);
+        return Err(Refusal::BodyEmpty);
     }
-    let over = len % IDX_STRIDE;
-    if over != 0 {
-        return refused(LENGTH_NOT_PADDED);
+    if len % IDX_STRIDE != 0 {
+        return Err(Refusal::LengthNotPadded);
     }
     let strides = len / IDX_STRIDE;
     if 0x1_0000_0000 <= strides {
-        return refused(TOO_MANY_STRIDES);
+        return Err(Refusal::TooManyStrides);
     }
-    accepted(strides)
+    Ok(strides)
 }
 
 fn below_byte(v: u32) -> u8
     ensures { result ≡ below 256 v }
 {
-    if v < 256 { v as u8 } else { 0 }
+    u8::try_from(v).unwrap_or(0)
 }
 
 // A record's values as the two bytes of its slot.
+#[tactic(auto, unfolding(crate::specs::Slot::slot, crate::specs::Bytes::bytes))]
 pub fn pack(kind: Kind, v: Value) -> [u8; 2]
     ensures { result ≡ slot kind v }
 {
     match kind {
         Kind::Paired => [below_byte(v.strides), below_byte(v.spans)],
         Kind::Single => {
-            let s = v.strides;
-            if s < 65536 {
-                return [(s % 256) as u8, (s / 256 % 256) as u8];
-            }
-            [0, 0]
+            let s = u16::try_from(v.strides).unwrap_or(0);
+            [(s % 256) as u8, (s / 256) as u8]
         }
     }
 }
 
+#[tactic(auto, unfolding(crate::specs::Slot::needs_row))]
 pub fn needs_row(kind: Kind, low: u8, high: u8) -> bool
     ensures { result ≡ needs_row kind (low ∷ high ∷ []) }
 {
     match kind {
-        Kind::Paired => {
-            if low == 0 {
-                return true;
-            }
-            high == 0
-        }
-        Kind::Single => {
-            if low == 0 {
-                return high == 0;
-            }
-            false
-        }
+        Kind::Paired => low == 0 || high == 0,
+        Kind::Single => low == 0 && high == 0,
     }
 }
 
 // What a slot says that needs no row.
+#[tactic(auto, unfolding(crate::specs::Slot::inline))]
 pub fn inline_value(kind: Kind, low: u8, high: u8) -> Value
     ensures { result ≡ inline kind (low ∷ high ∷ []) }
 {
@@ -169,6 +119,7 @@ pub fn inline_value(kind: Kind, low: u8, high: u8) -> Value
 }
 
 // How many of n records are kept with k whole checkpoints.
+#[tactic(auto, unfolding(crate::specs::Slot::checkpoint_rule))]
 pub fn checkpoint_prefix(n: u64, k: u64) -> u64
     ensures { (result ≡ checkpoint_rule n k) × (result ≤ n) }
 {
@@ -183,21 +134,16 @@ pub fn checkpoint_prefix(n: u64, k: u64) -> u64
 fn byte_agrees(b: u8, v: u32) -> bool
     ensures { result ≡ agrees b v }
 {
-    if b == 0 {
-        return true;
-    }
-    b as u32 == v
+    b == 0 || b as u32 == v
 }
 
 fn byte_overflows(b: u8, v: u32) -> bool
     ensures { result ≡ overflows b v }
 {
-    if b == 0 {
-        return 256 <= v;
-    }
-    false
+    b == 0 && 256 <= v
 }
 
+#[tactic(auto, unfolding(crate::specs::Cut::matches))]
 pub fn ovf_row_matches_slot(kind: Kind, v: Value, low: u8, high: u8) -> bool
     ensures { result ≡ matches kind (low ∷ high ∷ []) v }
 {
@@ -205,22 +151,11 @@ pub fn ovf_row_matches_slot(kind: Kind, v: Value, low: u8, high: u8) -> bool
     let spans = v.spans;
     match kind {
         Kind::Paired => {
-            if byte_agrees(low, strides) {
-                if byte_agrees(high, spans) {
-                    if byte_overflows(low, strides) {
-                        return true;
-                    }
-                    return byte_overflows(high, spans);
-                }
-            }
-            false
+            byte_agrees(low, strides)
+                && byte_agrees(high, spans)
+                && (byte_overflows(low, strides) || byte_overflows(high, spans))
         }
-        Kind::Single => {
-            if needs_row(kind, low, high) {
-                return 65536 <= strides;
-            }
-            false
-        }
+        Kind::Single => needs_row(kind, low, high) && 65536 <= strides,
     }
 }
 
@@ -228,20 +163,12 @@ pub fn ovf_row_matches_slot(kind: Kind, v: Value, low: u8, high: u8) -> bool
 fn slot_place(len: usize, id: u64) -> usize
     ensures { result ≡ min len (16 + 2 * (id - 1)) }
 {
-    if len <= 16 {
-        return len;
-    }
-    if id == 0 {
-        return 16;
-    }
-    let before = (id - 1) as usize;
-    if (len - 15) / 2 <= before {
-        return len;
-    }
-    16 + 2 * before
+    let before = id.saturating_sub(1);
+    before.saturating_mul(2).saturating_add(16).min(len as u64) as usize
 }
 
 // The two bytes of a record's slot.
+#[tactic(auto, unfolding(crate::specs::Slot::slot_at))]
 pub fn slot_at(slots: &[u8], id: u64) -> [u8; 2]
     ensures { result ≡ byte 0 (slot_at slots.now id) ∷ byte 1 (slot_at slots.now id) ∷ [] }
 {
@@ -251,6 +178,7 @@ pub fn slot_at(slots: &[u8], id: u64) -> [u8; 2]
 }
 
 // What a row says; the row begins the slice.
+#[tactic(auto, unfolding(crate::specs::Rows::row_value))]
 pub fn row_value(kind: Kind, row: &[u8]) -> Value
     ensures { result ≡ row_value kind row.now }
 {
@@ -285,6 +213,7 @@ pub fn cut_for_ovf_row(kind: Kind, slots: &[u8], n: u64, last: u64, row: &[u8]) 
 }
 
 // How many whole rows an area publishes.
+#[tactic(auto, unfolding(crate::specs::Kind::row_width))]
 pub fn row_count(kind: Kind, rows: &[u8]) -> usize
     ensures { result ≡ fill (row_width kind) rows.now }
 {
@@ -301,6 +230,7 @@ pub fn rows_up_to(kind: Kind, rows: &[u8], n: u64) -> usize
     let width = row_width(kind);
     let mut lo: usize = 0;
     let mut hi = row_count(kind, rows);
+    // the library's search answers nothing of rows in no order, and a definite answer is promised there too (rows_up_to_by_halves)
     while lo < hi {
         let mid = lo + (hi - lo) / 2;
         if u64_at(rows, FILE_HEADER_LEN + width * mid) <= n {

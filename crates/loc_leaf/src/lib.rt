@@ -20,10 +20,3 @@ pub struct Value {
     pub strides: u32,
     pub spans: u32,
 }
-
-// A call's refusal and value: 0 and the value, or the number and 0.
-#[derive(Clone, Copy)]
-pub struct Answer {
-    pub number: u64,
-    pub value: u64,
-}

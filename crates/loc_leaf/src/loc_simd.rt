@@ -26,6 +26,9 @@ pub fn lowest_record(mask: u8) -> u32
     u8::trailing_zeros(mask)
 }
 
+// Where a function stands for each kind, from here on, no constant tells the two apart: paired, a word has four lanes of a byte twice, single, two lanes of sixteen bits twice,
+// and other steps put them together.
+
 // The carry of each of a word's records of which no byte is 0: a byte that is not 0, with 255 added, reaches the bit above it.
 pub fn full(w: u64) -> u64
     ensures { result + 2 ^ 8 * row_bit Paired (bytes 8 w) 0 + 2 ^ 24 * row_bit Paired (bytes 8 w) 1 + 2 ^ 40 * row_bit Paired (bytes 8 w) 2 + 2 ^ 56 * row_bit Paired (bytes 8 w) 3 ≡ 0x0100_0100_0100_0100 }

@@ -1,83 +1,76 @@
-// The numbers of the refusals by name, and the two forms of an answer.
+// The refusals of the calls.
 // README's table says what each number means and which calls give it; the C header has the same names.
 ghost use Rattle.std.specs.Prelude.{◌≡◌};
-ghost use Rattle.loc_leaf.specs.Answers.{accepted_with, refused_by};
+ghost use Rattle.loc_leaf.specs.Answers.{number_of};
 
-use crate::Answer;
-
-pub const ACCEPTED: u64 = 0;
-
-pub const AREA_TOO_SMALL: u64 = 1;
-
-pub const SLOTS_ODD: u64 = 2;
-
-pub const CHECKPOINTS_NOT_WHOLE: u64 = 3;
-
-pub const ROWS_NOT_WHOLE: u64 = 4;
-
-pub const ROWS_NOT_ASCENDING: u64 = 5;
-
-pub const NOT_OPENED: u64 = 6;
-
-pub const LISTS_DIFFER: u64 = 7;
-
-pub const NO_SPANS: u64 = 8;
-
-pub const LENGTH_NOT_PADDED: u64 = 9;
-
-pub const TOO_MANY_STRIDES: u64 = 10;
-
-pub const BODY_NOT_CHAINED: u64 = 11;
-
-pub const SPANS_NOT_CHAINED: u64 = 12;
-
-pub const PAST_AREA: u64 = 13;
-
-pub const PAST_COUNT: u64 = 14;
-
-pub const TOO_MANY_NUMBERS: u64 = 15;
-
-pub const ANSWERS_TOO_SHORT: u64 = 16;
-
-pub const ROW_MISSING: u64 = 17;
-
-pub const LISTING_MALFORMED: u64 = 18;
-
-pub const LISTING_NUMBER: u64 = 19;
-
-pub const LISTING_SPAN_LEN: u64 = 20;
-
-pub const ADDRESS_NOT_HELD: u64 = 21;
-
-pub const BODY_EMPTY: u64 = 22;
-
-pub const BODY_NOT_AT_END: u64 = 23;
-
-pub const SPANS_NOT_AT_END: u64 = 24;
-
-pub const SEED_ZERO: u64 = 25;
-
-pub const TOO_MANY_RECORDS: u64 = 26;
-
-pub const NOT_A_RECORD: u64 = 27;
-
-pub const COMPONENT_NOT_BELOW: u64 = 28;
-
-pub const PAIRS_NOT_ASCENDING: u64 = 29;
-
-// An accepted call's answer.
-pub fn accepted(value: u64) -> Answer
-    ensures { result ≡ accepted_with value }
-{
-    Answer {
-        number: ACCEPTED,
-        value,
-    }
+#[derive(Clone, Copy, PartialEq, Eq)]
+pub enum Refusal {
+    AreaTooSmall,
+    SlotsOdd,
+    CheckpointsNotWhole,
+    RowsNotWhole,
+    RowsNotAscending,
+    NotOpened,
+    ListsDiffer,
+    NoSpans,
+    LengthNotPadded,
+    TooManyStrides,
+    BodyNotChained,
+    SpansNotChained,
+    PastArea,
+    PastCount,
+    TooManyNumbers,
+    AnswersTooShort,
+    RowMissing,
+    ListingMalformed,
+    ListingNumber,
+    ListingSpanLen,
+    AddressNotHeld,
+    BodyEmpty,
+    BodyNotAtEnd,
+    SpansNotAtEnd,
+    SeedZero,
+    TooManyRecords,
+    NotARecord,
+    ComponentNotBelow,
+    PairsNotAscending,
 }
 
-// A refused call's answer.
-pub fn refused(number: u64) -> Answer
-    ensures { result ≡ refused_by number }
-{
-    Answer { number, value: 0 }
+// A refusal's number; 0 is left for a call that is not refused.
+impl From<Refusal> for u64 {
+    fn from(r: Refusal) -> u64
+        ensures { result ≡ number_of r }
+    {
+        match r {
+            Refusal::AreaTooSmall => 1,
+            Refusal::SlotsOdd => 2,
+            Refusal::CheckpointsNotWhole => 3,
+            Refusal::RowsNotWhole => 4,
+            Refusal::RowsNotAscending => 5,
+            Refusal::NotOpened => 6,
+            Refusal::ListsDiffer => 7,
+            Refusal::NoSpans => 8,
+            Refusal::LengthNotPadded => 9,
+            Refusal::TooManyStrides => 10,
+            Refusal::BodyNotChained => 11,
+            Refusal::SpansNotChained => 12,
+            Refusal::PastArea => 13,
+            Refusal::PastCount => 14,
+            Refusal::TooManyNumbers => 15,
+            Refusal::AnswersTooShort => 16,
+            Refusal::RowMissing => 17,
+            Refusal::ListingMalformed => 18,
+            Refusal::ListingNumber => 19,
+            Refusal::ListingSpanLen => 20,
+            Refusal::AddressNotHeld => 21,
+            Refusal::BodyEmpty => 22,
+            Refusal::BodyNotAtEnd => 23,
+            Refusal::SpansNotAtEnd => 24,
+            Refusal::SeedZero => 25,
+            Refusal::TooManyRecords => 26,
+            Refusal::NotARecord => 27,
+            Refusal::ComponentNotBelow => 28,
+            Refusal::PairsNotAscending => 29,
+        }
+    }
 }

@@ -1,15 +1,14 @@
--- The line of names byte by byte, as it is put and as it is looked for.
--- What is put or compared so far is the first bytes.
-use Prim.Native.Nat.{ℕ, ◌+◌, ◌<◌, ◌≤◌}
-use mathlib.Core.Path.{◌≡◌, refl}
-use mathlib.Core.Bool.{Bool, true, false, ◌&&◌}
+-- The line of names, as it is put and as it is looked for.
+-- The library's `starts_with` is the definition `begins`.
+use Prim.Native.Nat.{ℕ, ◌<◌, ◌≤◌}
+use mathlib.Core.Path.{◌≡◌, refl, ap}
+use mathlib.Core.Bool.{Bool, ◌&&◌}
 use mathlib.Core.List.{List, [], ◌∷◌}
-use native.Mathlib.Numerals.{add-one}
 use native.Mathlib.Omega.{arith}
 use lib.Dec.{eqb}
-use lib.ListN.{length, drop, get_or, drop_of_length-le}
-use lib.Seq.{drop-cons}
-use borrow.Author.Tests.{eq-eqb, ne_eqb, le-leb, lt-leb}
+use lib.ListN.{length}
+use borrow.Author.Tests.{le-leb, lt-leb}
+use Rattle.std.specs.List.{starts_with}
 use Rattle.loc_listing.specs.Text.{names, begins, names_text, Put}
 use Rattle.loc_listing.proofs.TextLaws.{put_nothing}
 
@@ -29,25 +28,8 @@ names_put out out₁ r h p = (rw (le-leb 53 (length out) h) p.0, omega (arith, p
 
 -- ---- looked for
 
-pub begins_short : (xs ys : List ℕ) → length ys < length xs → begins xs ys ≡ false
+pub begins_is : (xs ys : List ℕ) → starts_with eqb ys xs ≡ begins xs ys
 unfolding begins
-begins_short [] ys h = absurd (omega arith)
-begins_short (x ∷ xs) [] h = refl
-begins_short (x ∷ xs) (y ∷ ys) h = go (eqb x y) (begins_short xs ys (omega arith))
-  where
-    go : (b : Bool) → begins xs ys ≡ false → (b && begins xs ys) ≡ false
-    go true e = e
-    go false e = refl
-
-module _ (xs ys : List ℕ) (i : ℕ) (h : i < length xs) (g : i < length ys) where
-  pub begins_same : get_or xs i 0 ≡ get_or ys i 0 → begins (drop i xs) (drop i ys) ≡ begins (drop (i + 1) xs) (drop (i + 1) ys)
-  unfolding begins
-  begins_same e = rw (drop-cons xs i 0 h, drop-cons ys i 0 g, eq-eqb (get_or xs i 0) (get_or ys i 0) e, add-one i) refl
-
-  pub begins_other : (get_or xs i 0 ≡ get_or ys i 0 → ⊥) → begins (drop i xs) (drop i ys) ≡ false
-  unfolding begins
-  begins_other e = rw (drop-cons xs i 0 h, drop-cons ys i 0 g, ne_eqb (get_or xs i 0) (get_or ys i 0) e) refl
-
-pub begins_all : (xs ys : List ℕ) (i : ℕ) → length xs ≤ i → begins (drop i xs) (drop i ys) ≡ true
-unfolding begins
-begins_all xs ys i h = rw (drop_of_length-le xs h) refl
+begins_is [] ys = refl
+begins_is (x ∷ xs) [] = refl
+begins_is (x ∷ xs) (y ∷ ys) = ap (λ (b : Bool). eqb x y && b) (begins_is xs ys)

@@ -1,19 +1,17 @@
 -- Text put after text, and the texts of a listing piece by piece.
 -- `Put` composes, so each function's text is the texts of its calls one after the other.
-use Prim.Native.Nat.{ℕ, zero, suc, ◌+◌, ◌-◌, ◌*◌, ◌/◌, ◌%◌, ◌^◌, ◌≤◌, ◌<◌}
+use Prim.Native.Nat.{ℕ, zero, suc, ◌+◌, ◌-◌, ◌*◌, ◌/◌, ◌%◌, ◌≤◌, ◌<◌}
 use mathlib.Core.Path.{◌≡◌, refl, sym, ap, ◌∙◌, subst}
-use mathlib.Core.Bool.{true, false, ◌&&◌}
+use mathlib.Core.Bool.{true, false}
 use mathlib.Core.List.{List, [], ◌∷◌, ◌++◌, append_assoc, append-nil}
-use native.Mathlib.Nat.{add-zero, add-suc}
+use native.Mathlib.Nat.{add-zero, zero-add, add-suc}
 use native.Mathlib.Numerals.{add-one}
-use native.Mathlib.Decide.{dec_le}
 use native.Mathlib.Omega.{arith}
-use lib.Dec.{leb, ltb}
 use lib.ListN.{length, take, drop, get_or, set, length-append, length-drop, take-append-drop, drop_of_length-le}
-use lib.Seq.{sets, take-suc, take_all, drop-set-add, take-set-le}
-use borrow.Author.Tests.{lt-ltb, le-ltb, lt-leb, le-leb, ltb-true, leb-true}
+use lib.Seq.{sets, sets-eq, take-suc, take_all, drop-set-add, take-set-le}
+use borrow.Author.Tests.{lt-ltb, le-ltb, lt-leb, le-leb}
+use Rattle.std.proofs.lemmas.Bool.Decides.{nat_tests}
 use borrow.Rule.Slice.PartMut.{put_mid}
-use Rattle.loc_leaf.proofs.Booleans.{both_left, both_right}
 use Rattle.loc_listing.specs.Text.{digits, decimal, line, record_line, record_lines, refused_line, fits, line_text, window_text, refused_text, Put}
 
 sets_append : (l : List ℕ) (i : ℕ) (xs ys : List ℕ) → sets l i (xs ++ ys) ≡ sets (sets l i xs) (i + length xs) ys
@@ -32,15 +30,9 @@ put_byte l at b = record { buffer = refl; place = refl }
 pub put_nothing : (l : List ℕ) (at : ℕ) → Put l at [] l at
 put_nothing l at = record { buffer = refl; place = omega arith }
 
--- ---- bytes one by one
-
-pub copied_more : (xs l l₁ : List ℕ) (i : ℕ) → i < length xs → Put l 0 (take i xs) l₁ i → Put l 0 (take (i + 1) xs) (set l₁ i (get_or xs i 0)) (i + 1)
-copied_more xs l l₁ i h p =
-    rw (add-one i, take-suc xs i 0 h)
-    (subst (λ (j : ℕ). Put l 0 (take i xs ++ (get_or xs i 0 ∷ [])) (set l₁ i (get_or xs i 0)) j) (add-one i) (put_then _ _ p (put_byte l₁ i (get_or xs i 0))))
-
-pub copied_all : (xs l l₁ : List ℕ) (i : ℕ) → i ≤ length xs → length xs ≤ i → Put l 0 (take i xs) l₁ i → Put l 0 xs l₁ i × (i ≡ length xs)
-copied_all xs l l₁ i h g p = (rw (take_all i xs g) at p, omega arith)
+-- bytes copied to the start of a buffer
+pub put_start : (xs l : List ℕ) → length xs ≤ length l → Put l 0 xs (xs ++ drop (length xs) l) (length xs)
+put_start xs l h = record { buffer = sym (sets-eq xs l 0 (omega arith) ∙ rw zero-add refl); place = omega arith }
 
 -- ---- a part of the buffer, from a place on, lent for a text
 
@@ -89,18 +81,31 @@ module _ (l : List ℕ) (at n : ℕ) where
 
 -- ---- lines
 
--- six fields
-pub fields_line : (a b c d e f : ℕ) {l l₁ l₂ l₃ l₄ l₅ l₆ : List ℕ} {p p₁ p₂ p₃ p₄ p₅ p₆ : ℕ}
-    → Put l p (decimal a ++ (32 ∷ [])) l₁ p₁ → Put l₁ p₁ (decimal b ++ (32 ∷ [])) l₂ p₂ → Put l₂ p₂ (decimal c ++ (32 ∷ [])) l₃ p₃
-    → Put l₃ p₃ (decimal d ++ (32 ∷ [])) l₄ p₄ → Put l₄ p₄ (decimal e ++ (32 ∷ [])) l₅ p₅ → Put l₅ p₅ (decimal f ++ (10 ∷ [])) l₆ p₆
-    → Put l p (line (a ∷ b ∷ c ∷ d ∷ e ∷ f ∷ [])) l₆ p₆
-unfolding line
-fields_line a b c d e f {l} {l₁} {l₂} {l₃} {l₄} {l₅} {l₆} {p} {p₁} {p₂} {p₃} {p₄} {p₅} {p₆} u v w x y z =
-    subst (λ (t : List ℕ). Put l p t l₆ p₆) text (put_then _ _ (put_then _ _ (put_then _ _ (put_then _ _ (put_then _ _ u v) w) x) y) z)
+-- numbers, each with a space behind it
+unfoldable pub spaced : List ℕ → List ℕ
+spaced [] = []
+spaced (n ∷ ns) = decimal n ++ (32 ∷ spaced ns)
+
+pub spaced_more : (ns : List ℕ) (m : ℕ) → spaced (ns ++ (m ∷ [])) ≡ spaced ns ++ (decimal m ++ (32 ∷ []))
+unfolding spaced
+spaced_more [] m = refl
+spaced_more (n ∷ ns) m = rw (spaced_more ns m) (simp append_assoc)
+
+line_more : (n : ℕ) (ns : List ℕ) (m : ℕ) → line (n ∷ (ns ++ (m ∷ []))) ≡ spaced (n ∷ ns) ++ (decimal m ++ (10 ∷ []))
+unfolding spaced line
+line_more n [] m = simp append_assoc
+line_more n (k ∷ ns) m = rw (line_more k ns m) (unfold spaced in simp append_assoc)
+
+line_whole : (ns : List ℕ) → length ns ≡ 6 → line ns ≡ spaced (take 5 ns) ++ (decimal (get_or ns 5 0) ++ (10 ∷ []))
+line_whole [] e = absurd (omega arith)
+line_whole (n ∷ ns) e = ap (λ (xs : List ℕ). line (n ∷ xs)) five ∙ line_more n (take 4 ns) (get_or ns 4 0)
   where
-    text : (((((decimal a ++ (32 ∷ [])) ++ (decimal b ++ (32 ∷ []))) ++ (decimal c ++ (32 ∷ []))) ++ (decimal d ++ (32 ∷ []))) ++ (decimal e ++ (32 ∷ []))) ++ (decimal f ++ (10 ∷ []))
-        ≡ line (a ∷ b ∷ c ∷ d ∷ e ∷ f ∷ [])
-    text = simp append_assoc
+    five : ns ≡ take 4 ns ++ (get_or ns 4 0 ∷ [])
+    five = sym (take_all 5 ns (omega arith)) ∙ take-suc ns 4 0 (omega arith)
+
+-- six numbers, of which five are put
+pub six_fields : (ns : List ℕ) → length ns ≡ 6 → {l l₁ l₂ : List ℕ} {at p q : ℕ} → Put l at (spaced (take 5 ns)) l₁ p → Put l₁ p (decimal (get_or ns 5 0) ++ (10 ∷ [])) l₂ q → Put l at (line ns) l₂ q
+six_fields ns e {l} {l₁} {l₂} {at} {p} {q} f g = subst (λ (t : List ℕ). Put l at t l₂ q) (sym (line_whole ns e)) (put_then _ _ f g)
 
 pub lines_none : (l : List ℕ) (first : ℕ) (ws : List ℕ) → Put l 0 (record_lines first ws 0) l 0
 unfolding record_lines
@@ -129,38 +134,9 @@ module _ (ns out : List ℕ) where
   unfolding line_text
   line_part at ys r h p = put_part out at (line ns) ys r (rw (part_long out at, le-leb 126 (length out - at) h) at p)
 
-module _ (first words n room : ℕ) where
-  pub no_room : room / 126 < n → false ≡ fits first words n room
-  unfolding fits
-  no_room h = rw (lt-leb (126 * n) room (omega arith)) refl
-
-  pub no_words : n ≤ room / 126 → words / 6 < n → false ≡ fits first words n room
-  unfolding fits
-  no_words h g = rw (le-leb (126 * n) room (omega arith), lt-leb (6 * n) words (omega arith)) refl
-
-  pub by_number : n ≤ room / 126 → n ≤ words / 6 → first < 2 ^ 64 → leb n (2 ^ 64 - 1 - first) ≡ fits first words n room
-  unfolding fits
-  by_number h g l = rw (le-leb (126 * n) room (omega arith), le-leb (6 * n) words (omega arith)) (go (dec_le n (2 ^ 64 - 1 - first)))
-    where
-      go : Dec (n ≤ 2 ^ 64 - 1 - first) → leb n (2 ^ 64 - 1 - first) ≡ ltb (first + n) (2 ^ 64)
-      go (yes q) = rw (le-leb n (2 ^ 64 - 1 - first) q, lt-ltb (first + n) (2 ^ 64) (omega arith)) refl
-      go (no q) = rw (lt-leb n (2 ^ 64 - 1 - first) (omega arith), le-ltb (first + n) (2 ^ 64) (omega arith)) refl
-
-  -- what fitting text has
-  module _ (e : fits first words n room ≡ true) where
-    first_two : (leb (126 * n) room && leb (6 * n) words) ≡ true
-    unfolding fits
-    first_two = both_left (leb (126 * n) room && leb (6 * n) words) (ltb (first + n) (2 ^ 64)) e
-
-    pub fit_room : 126 * n ≤ room
-    fit_room = leb-true (126 * n) room (both_left (leb (126 * n) room) (leb (6 * n) words) first_two)
-
-    pub fit_words : 6 * n ≤ words
-    fit_words = leb-true (6 * n) words (both_right (leb (126 * n) room) (leb (6 * n) words) first_two)
-
-    pub fit_number : first + n < 2 ^ 64
-    unfolding fits
-    fit_number = ltb-true (first + n) (2 ^ 64) (both_right (leb (126 * n) room && leb (6 * n) words) (ltb (first + n) (2 ^ 64)) e)
+fit_room : (first words n room : ℕ) → fits first words n room ≡ true → 126 * n ≤ room
+unfolding fits
+fit_room first words n room e = grind (arith, nat_tests)
 
 module _ (first n : ℕ) (ws out : List ℕ) where
   pub window_fits : (out₁ : List ℕ) (r : ℕ) → fits first (length ws) n (length out) ≡ true → Put out 0 (record_lines first ws n) out₁ r → r ≤ 126 * n

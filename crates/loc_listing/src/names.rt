@@ -5,41 +5,20 @@ ghost use Rattle.loc_listing.specs.Text.{names, begins, names_text, Put};
 
 use crate::put_bytes;
 
-// Whether a text begins with these bytes.
-fn begins(with: &[u8], text: &[u8]) -> bool
-    ensures { result ≡ begins with.now text.now }
-{
-    if text.len() < with.len() {
-        return false;
-    }
-    let mut i: usize = 0;
-    while i < with.len() {
-        if with[i] != text[i] {
-            return false;
-        }
-        i += 1;
-    }
-    true
-}
+const NAMES: &[u8] = b"record body_start body_len span_start span_len spans\n";
 
 // The answer is how many bytes are put: 53, or 0 where the buffer is too short.
 pub fn names_text(out: &mut [u8]) -> usize
     ensures { Put out.old 0 (names_text (length out.old)) out.new result × (result ≤ length out.old) × (result ≤ 53) }
 {
-    if out.len() < 53 {
+    if out.len() < NAMES.len() {
         return 0;
     }
-    put_bytes(
-        b"record body_start body_len span_start span_len spans\n",
-        out,
-    )
+    put_bytes(NAMES, out)
 }
 
 pub fn has_names(text: &[u8]) -> bool
     ensures { result ≡ begins names text.now }
 {
-    begins(
-        b"record body_start body_len span_start span_len spans\n",
-        text,
-    )
+    text.starts_with(NAMES)
 }

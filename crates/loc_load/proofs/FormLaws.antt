@@ -10,14 +10,13 @@ use lib.Dec.{ltb, eqb}
 use lib.ListN.{length, take, drop, length-append, drop_of_length-le}
 use lib.Seq.{take_all, length-take-le}
 use borrow.Author.Tests.{eq-eqb, eqb-true, not-false}
+use Rattle.std.specs.Prelude.{Option, Some, None}
 use Rattle.loc_leaf.specs.Answers.{refuse, ◌or_else◌}
 use Rattle.loc_leaf.proofs.Refusals.{or_else_left, or_else_right, refuse_zero, or_else_holds, refuse_holds}
 use Rattle.loc_calls.specs.Calls.{unless_refused}
 use Rattle.loc_calls.specs.Guarantees.{largest}
 use Rattle.loc_calls.proofs.Refused.{test, first}
 use Rattle.loc_listing.specs.Text.{decimal}
-use Rattle.loc_number.specs.declared.Number.{Number}
-use Rattle.loc_number.specs.declared.Number.TheVariants.{Known, Malformed}
 use Rattle.loc_number.specs.Decimal.{number_refusal, value_in, place_in}
 use Rattle.loc_number.proofs.NumberLaws.{known}
 use Rattle.loc_number.proofs.SpellLaws.{read_decimal, decimal_few, number_small, number_text}
@@ -27,7 +26,7 @@ use Rattle.loc_load.specs.Request.{line_at, seed_line, records_line, form_refusa
 
 module _ (seed n : ℕ) (hs : seed < 2 ^ 64) (hn : n < 2 ^ 64) where
   -- the line of the number v, after the bytes xs
-  line_read : (v : ℕ) (xs ys : List ℕ) → v < 2 ^ 64 → line_at (xs ++ (decimal v ++ (10 ∷ ys))) (length xs) ≡ Known v (length xs + length (decimal v) + 1)
+  line_read : (v : ℕ) (xs ys : List ℕ) → v < 2 ^ 64 → line_at (xs ++ (decimal v ++ (10 ∷ ys))) (length xs) ≡ Some (v, length xs + length (decimal v) + 1)
   line_read v xs ys h = read_decimal (2 ^ 64 - 1) 10 (λ q g e. omega arith) v xs ys h (omega arith)
 
   abbrev front : List ℕ
@@ -37,15 +36,15 @@ module _ (seed n : ℕ) (hs : seed < 2 ^ 64) (hn : n < 2 ^ 64) where
   unfolding two_lines
   split = sym (append_assoc (decimal seed) (10 ∷ []) (decimal n ++ (10 ∷ [])))
 
-  line_1 : line_at (two_lines seed n) 0 ≡ Known seed (length front)
+  line_1 : line_at (two_lines seed n) 0 ≡ Some (seed, length front)
   unfolding two_lines
-  line_1 = line_read seed [] (decimal n ++ (10 ∷ [])) hs ∙ ap (Known seed) (omega (arith, length-append (decimal seed) (10 ∷ [])))
+  line_1 = line_read seed [] (decimal n ++ (10 ∷ [])) hs ∙ ap (λ (p : ℕ). Some (seed, p)) (omega (arith, length-append (decimal seed) (10 ∷ [])))
 
-  line_2 : line_at (two_lines seed n) (length front) ≡ Known n (length (two_lines seed n))
+  line_2 : line_at (two_lines seed n) (length front) ≡ Some (n, length (two_lines seed n))
   line_2 =
       ap (λ (xs : List ℕ). line_at xs (length front)) split
       ∙ line_read n front [] hn
-      ∙ ap (Known n) (omega (arith, ap length split, length-append front (decimal n ++ (10 ∷ [])), length-append (decimal n) (10 ∷ [])))
+      ∙ ap (λ (p : ℕ). Some (n, p)) (omega (arith, ap length split, length-append front (decimal n ++ (10 ∷ [])), length-append (decimal n) (10 ∷ [])))
 
   pub two_lines_read : requested (two_lines seed n) ≡ request_of (load_refusal seed n) seed n
   unfolding requested request_refusal form_refusal number_refusal value_in place_in
@@ -85,13 +84,13 @@ only_two_lines xs e = record {
     end : ℕ
     end = place_in (records_line xs)
 
-    line_1 : line_at xs 0 ≡ Known seed at
+    line_1 : line_at xs 0 ≡ Some (seed, at)
     line_1 = known (seed_line xs) (or_else_left (number_refusal (seed_line xs)) _ e)
 
     after : (number_refusal (records_line xs) or_else refuse (not (eqb end (length xs))) 18) ≡ 0
     after = or_else_right (number_refusal (seed_line xs)) _ e
 
-    line_2 : line_at xs at ≡ Known n end
+    line_2 : line_at xs at ≡ Some (n, end)
     line_2 = known (records_line xs) (or_else_left (number_refusal (records_line xs)) _ after)
 
     last : end ≡ length xs
@@ -108,10 +107,10 @@ only_two_lines xs e = record {
 abbrev Form : ℕ → Type 0
 Form n = (n ≡ 0 → ⊥) → n ≡ 18
 
-number_form : (n : Number) → Form (number_refusal n)
+number_form : (n : Option (ℕ × ℕ)) → Form (number_refusal n)
 unfolding number_refusal
-number_form (Known v p) h = absurd (h refl)
-number_form Malformed h = refl
+number_form (Some (v, p)) h = absurd (h refl)
+number_form None h = refl
 
 form_18 : (xs : List ℕ) → Form (form_refusal xs)
 unfolding form_refusal
@@ -143,10 +142,10 @@ first_bytes_ask xs = go (dec_le (length xs) 43)
 
 -- ---- a number of the table
 
-number_in : (n : Number) → number_refusal n ≤ largest
+number_in : (n : Option (ℕ × ℕ)) → number_refusal n ≤ largest
 unfolding number_refusal
-number_in (Known v p) = omega arith
-number_in Malformed = omega arith
+number_in (Some (v, p)) = omega arith
+number_in None = omega arith
 
 pub request_in : (xs : List ℕ) → (requested xs).number ≤ largest
 unfolding requested request_refusal form_refusal load_refusal

@@ -15,10 +15,9 @@ use Rattle.loc_history.specs.History.{placed}
 use Rattle.loc_listing.specs.Text.{line, names, line_text, names_text, refused_text, Put}
 use Rattle.loc_listing.specs.Listing.{entry_line, entry_lines}
 use Rattle.loc_listing.proofs.TextLaws.{put_then, put_nothing, line_part}
-use Rattle.loc_load.specs.declared.Request.{Request}
 use Rattle.loc_load.specs.Xorshift.{xorshift}
 use Rattle.loc_load.specs.Load.{drawn, load, load_entries, load_listing}
-use Rattle.loc_load.specs.Request.{requested, load_text}
+use Rattle.loc_load.specs.Request.{Asked, requested, load_text}
 
 -- ---- lines
 
@@ -63,7 +62,7 @@ names_then seed n out out₁ out₂ p at h f g = put_then names (entry_lines 0 (
 
 -- ---- an answer
 
-module _ (xs : List ℕ) (q : Request) (is : q ≡ requested xs) (out : List ℕ) where
+module _ (xs : List ℕ) (q : Asked) (is : q ≡ requested xs) (out : List ℕ) where
   pub answer_none : q.number ≡ 0 → length out < 53 + 126 * q.records → Put out 0 (load_text (requested xs) (length out)) out 0
   unfolding load_text unless_refused
   answer_none e h = rw (← is, e, lt-leb (53 + 126 * q.records) (length out) h) (put_nothing out 0)

@@ -6,10 +6,9 @@ pub mod input;
 pub mod listing;
 pub mod xorshift;
 
-// A refusal or 0, and the seed and the number of records that are asked for; both are 0 on a refusal.
+// The seed and the number of records that are asked for.
 #[derive(Clone, Copy)]
 pub struct Request {
-    pub number: u64,
     pub seed: u64,
     pub records: u64,
 }

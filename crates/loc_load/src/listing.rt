@@ -19,15 +19,14 @@ fn put_load(seed: u64, n: usize, out: &mut [u8]) -> usize
     let mut x = seed;
     let mut body: u64 = 16;
     let mut span: u64 = 16;
-    let mut i: usize = 0;
-    while i < n {
+    for i in 0..n {
         let first = next_state(x);
         x = next_state(first);
         let len = 8 * (1 + first % 300);
         let spans = 1 + x % 300;
         let span_len = 8 * spans;
-        i += 1;
-        at += line_text(i as u64, body, len, span, span_len, spans, &mut out[at..]);
+        let fields = [i as u64 + 1, body, len, span, span_len, spans];
+        at += line_text(fields, &mut out[at..]);
         body += len;
         span += span_len;
     }
@@ -38,10 +37,10 @@ fn put_load(seed: u64, n: usize, out: &mut [u8]) -> usize
 pub fn load_text(input: &[u8], out: &mut [u8]) -> usize
     ensures { Put out.old 0 (load_text (requested input.now) (length out.old)) out.new result × (result ≤ length out.old) }
 {
-    let asked = read_request(input);
-    if asked.number != 0 {
-        return refused_text(asked.number, out);
-    }
+    let asked = match read_request(input) {
+        Ok(asked) => asked,
+        Err(refusal) => return refused_text(u64::from(refusal), out),
+    };
     let n = asked.records as usize;
     if out.len() < 53 + 126 * n {
         return 0;

@@ -4,6 +4,7 @@ ghost use Rattle.std.specs.Prelude.{◌≡◌};
 ghost use Rattle.loc_load.specs.Xorshift.{xorshift};
 
 // The state after a step.
+#[tactic(auto, unfolding(crate::specs::Xorshift::xorshift, crate::specs::Xorshift::xor_left, crate::specs::Xorshift::xor_right))]
 pub fn next_state(x: u64) -> u64
     ensures { result ≡ xorshift x }
 {

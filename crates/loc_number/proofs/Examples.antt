@@ -3,11 +3,10 @@
 use Prim.Native.Nat.{ℕ, ◌-◌, ◌^◌}
 use mathlib.Core.Path.{◌≡◌, refl}
 use mathlib.Core.List.{List, [], ◌∷◌}
-use Rattle.loc_number.specs.declared.Number.{Number}
-use Rattle.loc_number.specs.declared.Number.TheVariants.{Known, Malformed}
+use Rattle.std.specs.Prelude.{Option, Some, None}
 use Rattle.loc_number.specs.Decimal.{goes_on, digits_on, starts_at, number_at}
 
-abbrev first : List ℕ → Number
+abbrev first : List ℕ → Option (ℕ × ℕ)
 first xs = number_at (2 ^ 64 - 1) 10 xs 0
 
 -- 0, 18446744073709551615, 18446744073709551616, 07, no digit, 1 with no end, 1a, +1
@@ -21,6 +20,6 @@ numbers :
     ∷ first (49 ∷ 97 ∷ 10 ∷ [])
     ∷ first (43 ∷ 49 ∷ 10 ∷ [])
     ∷ []
-    ≡ Known 0 2 ∷ Known (2 ^ 64 - 1) 21 ∷ Malformed ∷ Malformed ∷ Malformed ∷ Malformed ∷ Malformed ∷ Malformed ∷ []
+    ≡ Some (0, 2) ∷ Some (2 ^ 64 - 1, 21) ∷ None ∷ None ∷ None ∷ None ∷ None ∷ None ∷ []
 unfolding number_at starts_at digits_on goes_on
 numbers = refl

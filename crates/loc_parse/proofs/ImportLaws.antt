@@ -7,9 +7,9 @@ use mathlib.Core.List.{List, []}
 use native.Mathlib.Omega.{arith}
 use lib.Dec.{leb, eqb}
 use lib.ListN.{length, take}
+use Rattle.std.specs.Prelude.{Some, None}
 use Rattle.loc_leaf.specs.declared.Kind.TheVariants.{Paired}
-use Rattle.loc_leaf.specs.declared.Answer.{Answer}
-use Rattle.loc_leaf.specs.Answers.{answer}
+use Rattle.loc_leaf.specs.Answers.{answer, Answer}
 use Rattle.loc_calls.specs.Areas.{each, Areas, count}
 use Rattle.loc_calls.specs.Table.{Batch, append}
 use Rattle.loc_calls.specs.Calls.{unless_refused, lent, call}
@@ -18,9 +18,7 @@ use Rattle.loc_calls.specs.Guarantees.{index_call, outcome, lent_to, largest, In
 use Rattle.loc_calls.proofs.Refused.{test, first, first_in_lem, numbers_of_table, refusals_leave_all}
 use Rattle.loc_calls.proofs.FirstBytes.{all_same, first_same, count_same, first_bytes_unread, first_bytes_unwritten}
 use Rattle.loc_parse.specs.declared.Fields.{Fields}
-use Rattle.loc_parse.specs.declared.Line.{Line}
-use Rattle.loc_parse.specs.declared.Line.TheVariants.{Whole, Broken}
-use Rattle.loc_parse.specs.Lines.{line_at, fields_refusal, Parsed, parsed_as, added, if_whole, lines_from, empty, parsed}
+use Rattle.loc_parse.specs.Lines.{Line, line_at, fields_refusal, Parsed, parsed_as, added, if_whole, lines_from, empty, parsed}
 use Rattle.loc_parse.specs.Import.{listing_refusal, append_listing}
 use Rattle.loc_parse.proofs.PrefixLaws.{first_bytes}
 use Rattle.loc_listing.specs.Text.{names, begins}
@@ -63,8 +61,8 @@ lines_in xs (suc m) id at b = go (leb (length xs) at) (line_at xs at) (λ f next
     go : (t : Bool) (l : Line) → ((f : Fields) (next : ℕ) → (lines_from xs m (id + 1) next (added b f)).number ≤ largest)
         → (cond t (parsed_as 0 b) (if_whole l (λ f next. unless_refused (fields_refusal id f) (lines_from xs m (id + 1) next (added b f)) (parsed_as (fields_refusal id f) b)) (parsed_as 18 b))).number ≤ largest
     go true l more = omega arith
-    go false Broken more = unfold if_whole in omega arith
-    go false (Whole f next) more = unfold if_whole in turn (fields_refusal id f) (fields_in id f) (lines_from xs m (id + 1) next (added b f)) (more f next)
+    go false None more = unfold if_whole in omega arith
+    go false (Some (f, next)) more = unfold if_whole in turn (fields_refusal id f) (fields_in id f) (lines_from xs m (id + 1) next (added b f)) (more f next)
 
 parsed_in : (n : ℕ) (xs : List ℕ) → (parsed n xs).number ≤ largest
 unfolding parsed

@@ -1,7 +1,6 @@
 pub mod FieldLaws
 pub mod LineBack
 pub mod LinesBack
-pub mod LineLaws
 pub mod ListLaws
 pub mod PrefixLaws
 pub mod OnlyPrinted

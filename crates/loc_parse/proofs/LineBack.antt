@@ -5,13 +5,11 @@ use mathlib.Core.Path.{◌≡◌, refl, ap, ◌∙◌}
 use mathlib.Core.List.{List, [], ◌∷◌, ◌++◌, append_assoc}
 use native.Mathlib.Omega.{arith}
 use lib.ListN.{length, length-append}
+use Rattle.std.specs.Prelude.{Some}
 use Rattle.loc_listing.specs.Text.{decimal, line}
-use Rattle.loc_number.specs.declared.Number.TheVariants.{Known}
 use Rattle.loc_number.specs.Decimal.{number_at}
 use Rattle.loc_number.proofs.SpellLaws.{read_decimal}
-use Rattle.loc_parse.specs.declared.Line.{Line}
-use Rattle.loc_parse.specs.declared.Line.TheVariants.{Whole}
-use Rattle.loc_parse.specs.Lines.{◌then◌, line_at}
+use Rattle.loc_parse.specs.Lines.{Line, ◌then◌, line_at}
 
 -- ---- one number, ended by a space or a line feed
 
@@ -24,8 +22,8 @@ back most end g v front ys text h l e f r more = rw (is_read) (more (front ++ (d
     place : length front + length (decimal v) + 1 ≡ length (front ++ (decimal v ++ (end ∷ [])))
     place = omega (arith, length-append front (decimal v ++ (end ∷ [])), length-append (decimal v) (end ∷ []))
 
-    is_read : number_at most end text (length front) ≡ Known v (length (front ++ (decimal v ++ (end ∷ []))))
-    is_read = rw e (read_decimal most end (λ q s t. omega arith) v front ys h l ∙ ap (Known v) place)
+    is_read : number_at most end text (length front) ≡ Some (v, length (front ++ (decimal v ++ (end ∷ []))))
+    is_read = rw e (read_decimal most end (λ q s t. omega arith) v front ys h l ∙ ap (λ (p : ℕ). Some (v, p)) place)
 
 -- ---- six
 
@@ -38,7 +36,7 @@ module _ (a b c d e f : ℕ) (xs ys : List ℕ) where
   spelled = simp append_assoc
 
   pub line_back : a < 2 ^ 64 → b < 2 ^ 64 → c < 2 ^ 64 → d < 2 ^ 64 → e < 2 ^ 64 → f < 2 ^ 32
-      → line_at text (length xs) ≡ Whole (record { number = a; start = b; len = c; span_start = d; span_len = e; spans = f }) (length (xs ++ line (a ∷ b ∷ c ∷ d ∷ e ∷ f ∷ [])))
+      → line_at text (length xs) ≡ Some (record { number = a; start = b; len = c; span_start = d; span_len = e; spans = f }, length (xs ++ line (a ∷ b ∷ c ∷ d ∷ e ∷ f ∷ [])))
   unfolding line_at line
   line_back ha hb hc hd he hf =
       back (2 ^ 64 - 1) 32 (omega arith) a xs _ text (omega arith) (omega arith) spelled _ _ λ p₁ t₁ q₁.

@@ -9,13 +9,13 @@ use native.Mathlib.Omega.{arith}
 use lib.Dec.{leb}
 use lib.ListN.{length, length-append}
 use borrow.Author.Tests.{le-leb, lt-leb, eq-eqb}
+use Rattle.std.specs.Prelude.{Some}
 use Rattle.loc_calls.specs.Table.{Entry, Batch, batch, batch_of}
 use Rattle.loc_calls.specs.Calls.{unless_refused}
 use Rattle.loc_listing.specs.Text.{decimal, line, names, begins}
 use Rattle.loc_listing.specs.Listing.{entry_line, entry_lines}
 use Rattle.loc_listing.proofs.NamesLaws.{names_long}
 use Rattle.loc_parse.specs.declared.Fields.{Fields}
-use Rattle.loc_parse.specs.declared.Line.TheVariants.{Whole}
 use Rattle.loc_parse.specs.Lines.{line_at, fields_refusal, parsed_as, added, if_whole, lines_from, empty, parsed}
 use Rattle.loc_parse.proofs.LineBack.{line_back}
 
@@ -81,7 +81,7 @@ lines_back (e ∷ es) (suc k) m xs zs b q h l f =
         lt-leb (length zs) (length xs)
         (omega (arith, ap length whole, length-append xs (entry_line (m + 1) e ++ entry_lines (m + 1) es), length-append (entry_line (m + 1) e) (entry_lines (m + 1) es), line_some (m + 1) e))
 
-    there : line_at zs (length xs) ≡ Whole (fields_of (m + 1) e) (length (xs ++ entry_line (m + 1) e))
+    there : line_at zs (length xs) ≡ Some (fields_of (m + 1) e, length (xs ++ entry_line (m + 1) e))
     there =
         ap (λ (z : List ℕ). line_at z (length xs)) whole
         ∙ line_back (m + 1) e.start e.len e.span_start (8 * e.spans) e.spans xs (entry_lines (m + 1) es)

@@ -9,6 +9,8 @@ use native.Mathlib.Omega.{arith}
 use lib.Dec.{leb, eqb}
 use lib.ListN.{length, drop, drop_of_length-le}
 use borrow.Author.Tests.{leb-true, eqb-true, not-false}
+use Rattle.std.specs.Prelude.{Some, None}
+use Rattle.std.proofs.lemmas.Option.{some_pair_parts}
 use Rattle.loc_leaf.specs.Answers.{refuse}
 use Rattle.loc_leaf.proofs.Booleans.{both_left, both_right}
 use Rattle.loc_leaf.proofs.Refusals.{or_else_left, or_else_right, refuse_zero}
@@ -18,9 +20,7 @@ use Rattle.loc_listing.specs.Text.{decimal, line, names, begins}
 use Rattle.loc_listing.specs.Listing.{entry_line, entry_lines}
 use Rattle.loc_listing.proofs.NamesLaws.{names_long}
 use Rattle.loc_parse.specs.declared.Fields.{Fields}
-use Rattle.loc_parse.specs.declared.Line.{Line}
-use Rattle.loc_parse.specs.declared.Line.TheVariants.{Whole, Broken}
-use Rattle.loc_parse.specs.Lines.{line_at, fields_refusal, Parsed, parsed_as, added, if_whole, lines_from, empty, parsed}
+use Rattle.loc_parse.specs.Lines.{Line, line_at, fields_refusal, Parsed, parsed_as, added, if_whole, lines_from, empty, parsed}
 use Rattle.loc_parse.proofs.FieldLaws.{field}
 use Rattle.loc_parse.proofs.LinesBack.{AllFit, joined}
 
@@ -33,7 +33,7 @@ record LineIs (xs : List ℕ) (at : ℕ) (t : Fields) (next : ℕ) : Type 0 wher
   span_start : t.span_start < 2 ^ 64
   spans : t.spans < 2 ^ 32
 
-line_is : (xs : List ℕ) (at : ℕ) (t : Fields) (next : ℕ) → line_at xs at ≡ Whole t next → LineIs xs at t next
+line_is : (xs : List ℕ) (at : ℕ) (t : Fields) (next : ℕ) → line_at xs at ≡ Some (t, next) → LineIs xs at t next
 unfolding line_at
 line_is xs at t next q =
     field (2 ^ 64 - 1) 32 (omega arith) xs at _ t next q λ a p₁ ta sa _ q₁.
@@ -46,11 +46,10 @@ line_is xs at t next q =
   where
     whole : (a b c d e f p : ℕ) → b < 2 ^ 64 → c < 2 ^ 64 → d < 2 ^ 64 → f < 2 ^ 32
         → drop at xs ≡ decimal a ++ (32 ∷ (decimal b ++ (32 ∷ (decimal c ++ (32 ∷ (decimal d ++ (32 ∷ (decimal e ++ (32 ∷ (decimal f ++ (10 ∷ drop p xs)))))))))))
-        → Whole (record { number = a; start = b; len = c; span_start = d; span_len = e; spans = f }) p ≡ Whole t next → LineIs xs at t next
+        → ◌≡◌ {A = Line} (Some (record { number = a; start = b; len = c; span_start = d; span_len = e; spans = f }, p)) (Some (t, next)) → LineIs xs at t next
     whole a b c d e f p hb hc hd hf text q =
-        let fields : record { number = a; start = b; len = c; span_start = d; span_len = e; spans = f } ≡ t = cc in
-        let place : p ≡ next = cc in
-        rw (← fields, ← place) (record { text = text ∙ unfold line in simp append_assoc; start = hb; len = hc; span_start = hd; spans = hf })
+        let same = some_pair_parts (record { number = a; start = b; len = c; span_start = d; span_len = e; spans = f }) t p next q in
+        rw (← same.0, ← same.1) (record { text = text ∙ unfold line in simp append_assoc; start = hb; len = hc; span_start = hd; spans = hf })
 
 -- ---- 19 and 20 leave the number wanted and the length of the spans
 
@@ -110,7 +109,7 @@ lines_are zero xs k at b c e = go (leb (length xs) at) refl e
     go false q w = absurd (let z : ◌≡◌ {A = ℕ} 18 0 = same_number 18 0 b c w in omega arith)
 lines_are (suc m) xs k at b c e = go (leb (length xs) at) refl (line_at xs at) refl e (λ t next. lines_are m xs (k + 1) next (added b t) c)
   where
-    refused : (n : ℕ) (t : Fields) (next : ℕ) → fields_refusal (k + 1) t ≡ n → line_at xs at ≡ Whole t next → unless_refused n (lines_from xs m (k + 1 + 1) next (added b t)) (parsed_as n b) ≡ parsed_as 0 c
+    refused : (n : ℕ) (t : Fields) (next : ℕ) → fields_refusal (k + 1) t ≡ n → line_at xs at ≡ Some (t, next) → unless_refused n (lines_from xs m (k + 1 + 1) next (added b t)) (parsed_as n b) ≡ parsed_as 0 c
         → (lines_from xs m (k + 1 + 1) next (added b t) ≡ parsed_as 0 c → LinesAre xs m (k + 1) next (added b t) c) → LinesAre xs (suc m) k at b c
     refused zero t next r l w more = lines_one xs m k at next b c t (line_is xs at t next l) r (more (unfold unless_refused in w))
     refused (suc n) t next r l w more = absurd (let z : ◌≡◌ {A = ℕ} (suc n) 0 = unfold unless_refused in same_number (suc n) 0 b c w in omega arith)
@@ -120,8 +119,8 @@ lines_are (suc m) xs k at b c e = go (leb (length xs) at) refl (line_at xs at) r
         → ((t : Fields) (next : ℕ) → lines_from xs m (k + 1 + 1) next (added b t) ≡ parsed_as 0 c → LinesAre xs m (k + 1) next (added b t) c)
         → LinesAre xs (suc m) k at b c
     go true q l p w more = lines_done xs (suc m) k at b c (leb-true (length xs) at q) w
-    go false q Broken p w more = absurd (let z : ◌≡◌ {A = ℕ} 18 0 = unfold if_whole in same_number 18 0 b c w in omega arith)
-    go false q (Whole t next) p w more = refused (fields_refusal (k + 1) t) t next refl p (unfold if_whole in w) (more t next)
+    go false q None p w more = absurd (let z : ◌≡◌ {A = ℕ} 18 0 = unfold if_whole in same_number 18 0 b c w in omega arith)
+    go false q (Some (t, next)) p w more = refused (fields_refusal (k + 1) t) t next refl p (unfold if_whole in w) (more t next)
 
 -- ---- a text
 

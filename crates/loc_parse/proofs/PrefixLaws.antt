@@ -11,20 +11,18 @@ use lib.Dec.{eqb}
 use lib.ListN.{length, take, drop, length-append, length-drop, take-append-drop}
 use lib.Seq.{length-take-le, take_all, drop-append-le}
 use borrow.Author.Tests.{lt-leb}
+use Rattle.std.specs.Prelude.{Option, Some, None}
+use Rattle.std.proofs.lemmas.Option.{some_pair_parts}
 use Rattle.loc_leaf.proofs.Booleans.{both_right}
 use Rattle.loc_calls.specs.Table.{Batch}
 use Rattle.loc_calls.specs.Calls.{unless_refused}
-use Rattle.loc_number.specs.declared.Number.{Number}
-use Rattle.loc_number.specs.declared.Number.TheVariants.{Known, Malformed}
 use Rattle.loc_number.specs.Decimal.{with, goes_on, digits_on, starts_at, number_at}
 use Rattle.loc_number.proofs.NumberLaws.{goes_within}
 use Rattle.loc_number.proofs.SpellLaws.{number_near}
 use Rattle.loc_listing.specs.Text.{names, begins}
 use Rattle.loc_listing.proofs.NamesLaws.{names_long}
 use Rattle.loc_parse.specs.declared.Fields.{Fields}
-use Rattle.loc_parse.specs.declared.Line.{Line}
-use Rattle.loc_parse.specs.declared.Line.TheVariants.{Whole, Broken}
-use Rattle.loc_parse.specs.Lines.{◌then◌, line_at, fields_refusal, Parsed, parsed_as, added, if_whole, lines_from, empty, parsed}
+use Rattle.loc_parse.specs.Lines.{Line, ◌then◌, line_at, fields_refusal, Parsed, parsed_as, added, if_whole, lines_from, empty, parsed}
 use Rattle.loc_parse.proofs.FieldLaws.{field}
 
 -- ---- numbers
@@ -38,7 +36,7 @@ module _ (most end : ℕ) where
     where
       go : (s t : Bool) → (not (eqb v 0) && goes_on most v b) ≡ t
           → (10 ^ suc j ≤ with v b → with v b ≤ most → most < 10 ^ (suc j + length bs) → digits_on most end (with v b) (at + 1) (bs ++ zs) ≡ digits_on most end (with v b) (at + 1) bs)
-          → cond s (Known v (at + 1)) (cond t (digits_on most end (with v b) (at + 1) (bs ++ zs)) Malformed) ≡ cond s (Known v (at + 1)) (cond t (digits_on most end (with v b) (at + 1) bs) Malformed)
+          → cond s (Some (v, at + 1)) (cond t (digits_on most end (with v b) (at + 1) (bs ++ zs)) None) ≡ cond s (Some (v, at + 1)) (cond t (digits_on most end (with v b) (at + 1) bs) None)
       go true t q more = refl
       go false false q more = refl
       go false true q more =
@@ -57,7 +55,7 @@ module _ (most end : ℕ) where
   starts_same (b ∷ []) zs at h g = absurd (omega arith)
   starts_same (b ∷ c ∷ bs) zs at h g = go (goes_on most 0 b) refl (dec_le (b - 48) 0)
     where
-      go : (t : Bool) → goes_on most 0 b ≡ t → Dec (b - 48 ≤ 0) → cond t (digits_on most end (b - 48) (at + 1) ((c ∷ bs) ++ zs)) Malformed ≡ cond t (digits_on most end (b - 48) (at + 1) (c ∷ bs)) Malformed
+      go : (t : Bool) → goes_on most 0 b ≡ t → Dec (b - 48 ≤ 0) → cond t (digits_on most end (b - 48) (at + 1) ((c ∷ bs) ++ zs)) None ≡ cond t (digits_on most end (b - 48) (at + 1) (c ∷ bs)) None
       go false q d = refl
       go true q (yes d) =
           let none : b - 48 ≡ 0 = omega arith in
@@ -80,9 +78,9 @@ module _ (most end : ℕ) (few : most < 2 ^ 64) (xs : List ℕ) (at : ℕ) where
   unfolding ◌then◌
   field_same zs f g h same = rw (number_same most end xs zs at h (omega arith)) (go (number_at most end xs at) refl)
     where
-      go : (n : Number) → number_at most end xs at ≡ n → (n then f) ≡ (n then g)
-      go Malformed q = refl
-      go (Known v p) q = same v p (number_near most end few xs at v p q)
+      go : (n : Option (ℕ × ℕ)) → number_at most end xs at ≡ n → (n then f) ≡ (n then g)
+      go None q = refl
+      go (Some (v, p)) q = same v p (number_near most end few xs at v p q)
 
 -- six numbers
 line_same : (xs zs : List ℕ) (at : ℕ) → at + 126 ≤ length xs → line_at (xs ++ zs) at ≡ line_at xs at
@@ -95,7 +93,7 @@ line_same xs zs at h =
     field_same (2 ^ 64 - 1) 32 (omega arith) xs p₄ zs _ _ (omega arith) λ v₅ p₅ e₅.
     field_same (2 ^ 32 - 1) 10 (omega arith) xs p₅ zs _ _ (omega arith) λ v₆ p₆ e₆. refl
 
-line_near : (xs : List ℕ) (at : ℕ) (t : Fields) (next : ℕ) → line_at xs at ≡ Whole t next → next ≤ at + 126
+line_near : (xs : List ℕ) (at : ℕ) (t : Fields) (next : ℕ) → line_at xs at ≡ Some (t, next) → next ≤ at + 126
 unfolding line_at
 line_near xs at t next q =
     field (2 ^ 64 - 1) 32 (omega arith) xs at _ t next q λ _ p₁ _ _ n₁ q₁.
@@ -104,7 +102,7 @@ line_near xs at t next q =
     field (2 ^ 64 - 1) 32 (omega arith) xs p₃ _ t next q₃ λ _ p₄ _ _ n₄ q₄.
     field (2 ^ 64 - 1) 32 (omega arith) xs p₄ _ t next q₄ λ _ p₅ _ _ n₅ q₅.
     field (2 ^ 32 - 1) 10 (omega arith) xs p₅ _ t next q₅ λ _ p₆ _ _ n₆ q₆.
-    let place : p₆ ≡ next = cc in omega arith
+    omega (arith, (some_pair_parts _ t p₆ next q₆).1)
 
 lines_same : (m id at : ℕ) (b : Batch) (xs zs : List ℕ) → at + 126 * m < length xs → lines_from (xs ++ zs) m id at b ≡ lines_from xs m id at b
 unfolding lines_from
@@ -117,8 +115,8 @@ lines_same (suc m) id at b xs zs h =
         → ((f : Fields) (next : ℕ) → next + 126 * m < length xs → lines_from (xs ++ zs) m (id + 1) next (added b f) ≡ lines_from xs m (id + 1) next (added b f))
         → if_whole l (λ f next. unless_refused (fields_refusal id f) (lines_from (xs ++ zs) m (id + 1) next (added b f)) (parsed_as (fields_refusal id f) b)) (parsed_as 18 b)
         ≡ if_whole l (λ f next. unless_refused (fields_refusal id f) (lines_from xs m (id + 1) next (added b f)) (parsed_as (fields_refusal id f) b)) (parsed_as 18 b)
-    go Broken q more = unfold if_whole in refl
-    go (Whole f next) q more = unfold if_whole in ap (λ (p : Parsed). unless_refused (fields_refusal id f) p (parsed_as (fields_refusal id f) b)) (more f next (omega (arith, line_near xs at f next q)))
+    go None q more = unfold if_whole in refl
+    go (Some (f, next)) q more = unfold if_whole in ap (λ (p : Parsed). unless_refused (fields_refusal id f) p (parsed_as (fields_refusal id f) b)) (more f next (omega (arith, line_near xs at f next q)))
 
 -- ---- a text
 

@@ -1,9 +1,10 @@
 // A listing read back: the six numbers of its lines, their refusals, and the four lists of a batch.
-// Any bytes are read. An inner crate: what fills the lists requires room for 1,024 records.
+// Any bytes are read. An inner crate: a text is parsed for a count that leaves room for 1,025 numbers more.
 #![tactic(auto)]
 
 pub mod form;
 pub mod lines;
+pub mod lists;
 
 // The six numbers of a line.
 #[derive(Clone, Copy)]
@@ -14,18 +15,4 @@ pub struct Fields {
     pub span_start: u64,
     pub span_len: u64,
     pub spans: u32,
-}
-
-// What stands at a place: a line, and the place after its line feed.
-#[derive(Clone, Copy)]
-pub enum Line {
-    Whole(Fields, usize),
-    Broken,
-}
-
-// A refusal or 0, and how many records stand in the lists.
-#[derive(Clone, Copy)]
-pub struct Taken {
-    pub number: u64,
-    pub n: usize,
 }

@@ -124,9 +124,6 @@ pub record Keeping (src out : List ℕ) (r z i : ℕ) : Type 0 where
   pub few : r ≤ i
   pub kept : take r out ++ distinct z (drop i src) ≡ distinct 0 src
 
-pub keeping_begins : (src out : List ℕ) → Keeping src out 0 0 0
-keeping_begins src out = record { inside = omega arith; few = omega arith; kept = refl }
-
 module _ (src out : List ℕ) (r z i : ℕ) (w : Keeping src out r z i) where
   module _ (h : i < length src) where
     abbrev y : ℕ

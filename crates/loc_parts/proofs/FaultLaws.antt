@@ -1,82 +1,42 @@
 -- The refusals that count, pairs and record decide, in the form in which the code meets them.
 -- `fault_next`: with one pair more, the first fault is the lesser of that of the pairs before and the pair's own.
 use Prim.Native.Nat.{ℕ, zero, suc, ◌+◌, ◌≤◌, ◌<◌, min}
-use mathlib.Core.Path.{◌≡◌, refl, sym, ap, ◌∙◌}
-use mathlib.Core.Bool.{Bool, true, false, not, ◌||◌, and-false}
+use mathlib.Core.Path.{◌≡◌, refl, ap, ◌∙◌}
+use mathlib.Core.Logic.{◌⊎◌}
+use Rattle.std.proofs.lemmas.Bool.Decides.{nat_tests}
+use Rattle.std.specs.Prelude.{Some}
+use Rattle.std.specs.Ordering.{nat_cmp, partial_lt, partial_ordering_then}
+use mathlib.Core.Bool.{Bool, true, false, not, ◌||◌}
 use mathlib.Core.List.{List, ◌∷◌}
-use native.Mathlib.Numerals.{add-one}
 use native.Mathlib.Omega.{arith}
-use lib.Dec.{leb, ltb}
+use lib.Dec.{leb}
 use lib.ListN.{length, get_or}
-use borrow.Author.Tests.{lt-ltb, le-ltb, le-leb, lt-leb, eq-eqb, ne_eqb}
+use borrow.Author.Tests.{lt-ltb, le-ltb, le-leb, eq-eqb, ne_eqb}
 use Rattle.loc_leaf.specs.Answers.{refuse, ◌or_else◌}
 use Rattle.loc_calls.specs.Reading.{within}
 use Rattle.loc_calls.specs.Parts.{some_below, strange, comes_before, misplaced, first_fault, pairs_refusal}
-use Rattle.loc_order.proofs.KeyLaws.{zero_outside}
 use Rattle.loc_parts.specs.Faults.{pair_fault, least_fault}
-
--- ---- a number past the count, and a record's
-
-module _ (n y : ℕ) where
-  past_out : n < y → within n y ≡ false
-  unfolding within
-  past_out h = rw (lt-leb y n h) (and-false (ltb 0 y))
-
-  counted_in : 0 < y → y ≤ n → within n y ≡ true
-  unfolding within
-  counted_in z h = rw (lt-ltb 0 y z, le-leb y n h) refl
 
 -- ---- one pair
 
-module _ (d q c p : ℕ) where
-  pub before_less : d < c → true ≡ comes_before d q c p
-  unfolding comes_before
-  before_less h = rw (lt-ltb d c h) refl
-
-  pub before_same : c ≤ d → d ≡ c → ltb q p ≡ comes_before d q c p
-  unfolding comes_before
-  before_same h e = rw (le-ltb d c h, eq-eqb d c e) refl
-
-  pub before_none : c ≤ d → (d ≡ c → ⊥) → false ≡ comes_before d q c p
-  unfolding comes_before
-  before_none h e = rw (le-ltb d c h, ne_eqb d c e) refl
+-- the order of tuples is that of pairs
+pub tuple_before : (d q c p : ℕ) → partial_lt {X = ℕ × ℕ} (λ x y. partial_ordering_then (Some (nat_cmp x.0 y.0)) (Some (nat_cmp x.1 y.1))) (d, q) (c, p) ≡ comes_before d q c p
+unfolding comes_before
+tuple_before d q c p = grind (arith, nat_tests)
 
 module _ (n c p : ℕ) where
-  pub raised_zero : c ≡ 0 → 27 ≡ (refuse (strange n c p) 27 or_else 28)
-  unfolding strange
-  raised_zero e = rw (← zero_outside n c e) refl
-
-  pub raised_past : n < p → 27 ≡ (refuse (strange n c p) 27 or_else 28)
-  unfolding strange
-  raised_past h = rw (past_out n p h, and-false (within n c)) refl
-
-  pub raised_only : c ≤ p → (c ≡ 0 → ⊥) → p ≤ n → 28 ≡ (refuse (strange n c p) 27 or_else 28)
-  unfolding strange
-  raised_only r z h = rw (counted_in n c (omega arith) (omega arith), counted_in n p (omega arith) h) refl
-
   module _ (d q : ℕ) where
     pub fault_raised : (r : ℕ) → r ≡ (refuse (strange n c p) 27 or_else 28) → c ≤ p → r ≡ pair_fault n d q c p
     unfolding pair_fault
     fault_raised r e h = rw (le-leb c p h) e
 
-    pub fault_zero : p ≡ 0 → 27 ≡ pair_fault n d q c p
-    unfolding pair_fault strange
-    fault_zero e = rw (← zero_outside n p e, and-false (within n c)) refl
+    pub fault_strange : (p ≡ 0) ⊎ (n < c) → p < c → 27 ≡ pair_fault n d q c p
+    unfolding pair_fault strange within
+    fault_strange s h = grind (arith, nat_tests)
 
-    pub fault_past : n < c → 27 ≡ pair_fault n d q c p
-    unfolding pair_fault strange
-    fault_past h = rw (past_out n c h) refl
-
-    module _ (b : p < c) (z : p ≡ 0 → ⊥) (h : c ≤ n) (t : Bool) (e : t ≡ comes_before d q c p) where
-      fault_is : pair_fault n d q c p ≡ refuse (not t) 29
-      unfolding pair_fault strange
-      fault_is = rw (counted_in n c (omega arith) h, counted_in n p (omega arith) (omega arith), lt-leb c p b, ← e) refl
-
-      pub fault_none : t ≡ true → 0 ≡ pair_fault n d q c p
-      fault_none y = sym (fault_is ∙ rw y refl)
-
-      pub fault_order : t ≡ false → 29 ≡ pair_fault n d q c p
-      fault_order y = sym (fault_is ∙ rw y refl)
+    pub fault_order : p < c → (p ≡ 0 → ⊥) → c ≤ n → (t : Bool) → t ≡ comes_before d q c p → refuse (not t) 29 ≡ pair_fault n d q c p
+    unfolding pair_fault strange within
+    fault_order b z h t e = grind (arith, nat_tests)
 
 -- ---- the lesser of two numbers
 
@@ -138,14 +98,16 @@ module _ (n : ℕ) (cs ps : List ℕ) where
       least_tests (some_below (λ j. strange n (get_or cs j 0) (get_or ps j 0)) i) (some_below (λ j. leb (get_or cs j 0) (get_or ps j 0)) i) (some_below (misplaced cs ps) i)
       (strange n (get_or cs i 0) (get_or ps i 0)) (leb (get_or cs i 0) (get_or ps i 0)) (misplaced cs ps i)
 
-  pub faults_next : (number d q i : ℕ) → Faults n cs ps number d q i → i < length cs → (f : ℕ) → f ≡ pair_fault n d q (get_or cs i 0) (get_or ps i 0)
-      → (r : ℕ) → r ≡ least_fault number f → Faults n cs ps r (get_or cs i 0) (get_or ps i 0) (i + 1)
-  faults_next number d q i w h f e r l = record {
-    inside = omega arith;
-    number_is = rw (add-one i, fault_next i, ← w.number_is, ← w.composite, ← w.component, ← e) l;
-    composite = rw (add-one i) refl;
-    component = rw (add-one i) refl;
-  }
+  pub faults_next : (number d q c p i j : ℕ) → Faults n cs ps number d q i → (i < length cs) × (c ≡ get_or cs i 0) × (p ≡ get_or ps i 0) → j ≡ i + 1 → (f : ℕ) → f ≡ pair_fault n d q c p
+      → (r : ℕ) → r ≡ least_fault number f → Faults n cs ps r c p j
+  faults_next number d q c p i j w here one f e r l =
+      let next : j ≡ suc i = omega arith in
+      rw (next, here.1, here.2) (record {
+        inside = omega (arith, here.0);
+        number_is = rw (fault_next i, ← w.number_is, ← w.composite, ← w.component, ← here.1, ← here.2, ← e) l;
+        composite = refl;
+        component = refl;
+      })
 
   pub faults_end : (number d q i : ℕ) → Faults n cs ps number d q i → length cs ≤ i → number ≡ first_fault n cs ps (length cs)
   faults_end number d q i w h =

@@ -1,28 +1,28 @@
--- How many composites are at most a number, the end of a composite's pairs, the mark at the last of them, and the table of components.
+-- How many composites are at most a number, and the end of a composite's pairs.
 -- Composites are in order throughout.
 use Prim.Native.Nat.{ℕ, zero, suc, ◌+◌, ◌-◌, ◌*◌, ◌/◌, ◌≤◌, ◌<◌}
-use mathlib.Core.Path.{◌≡◌, refl, sym, ◌∙◌, subst}
+use mathlib.Core.Path.{◌≡◌, refl}
 use mathlib.Core.Logic.{◌⊎◌, inl, inr}
-use mathlib.Core.Bool.{Bool, true, false, cond, false≢true, true≢false}
+use mathlib.Core.Bool.{Bool, true, false, cond}
 use mathlib.Core.List.{List}
 use native.Mathlib.Nat.{add-zero, add-suc}
 use native.Mathlib.Omega.{arith}
-use lib.Dec.{leb, ltb, eqb}
-use lib.ListN.{length, get_or, set}
-use lib.Seq.{get_or-set_same, get_or-set_other}
-use borrow.Author.Tests.{ltb-true, ltb-false, leb-true, leb-false, le-leb, lt-leb, eqb-true, eqb-false}
+use mir.Val.{bool_byte}
+use lib.Dec.{leb}
+use lib.ListN.{length, get_or}
+use borrow.Author.Tests.{leb-true, leb-false, le-leb, lt-leb}
 use Rattle.loc_leaf.specs.Quarters.{Counts, Near}
 use Rattle.loc_leaf.proofs.Booleans.{is?}
 use Rattle.loc_leaf.proofs.QuarterLaws.{near_one, near_quarters}
 use Rattle.loc_calls.specs.Parts.{InOrder}
-use Rattle.loc_parts.specs.Pass.{composites_to, PairsEnd, marked, LastOwn, Marked, Entered}
+use Rattle.loc_parts.specs.Pass.{composites_to, PairsEnd}
 
 -- ---- how many are at most y
 
 module _ (cs : List ℕ) (y : ℕ) where
   -- 1 where the composite at a place is at most y
   abbrev pub passes : ℕ → ℕ
-  passes j = cond (leb (get_or cs j 0) y) 1 0
+  passes j = bool_byte (leb (get_or cs j 0) y)
 
   pub to_most : (n : ℕ) → composites_to cs y n ≤ n
   unfolding composites_to
@@ -78,22 +78,6 @@ module _ (cs : List ℕ) (y : ℕ) where
 -- ---- the end of a composite's pairs
 
 module _ (cs : List ℕ) (n y : ℕ) where
-  -- the last of the pairs has a lower composite
-  pub end_low : InOrder cs → n ≤ length cs → (n ≡ 0 → ⊥) → get_or cs (n - 1) 0 < y → PairsEnd cs n y 0
-  end_low rise fits z h = record {
-    inside = omega arith;
-    own = λ g. absurd (omega arith);
-    past = λ j g l q. absurd (omega (arith, rise j (n - 1) (omega arith) (omega arith)));
-  }
-
-  -- the first has a higher one
-  pub end_high : InOrder cs → n ≤ length cs → y < get_or cs 0 0 → PairsEnd cs n y 0
-  end_high rise fits h = record {
-    inside = omega arith;
-    own = λ g. absurd (omega arith);
-    past = λ j g l q. absurd (omega (arith, rise 0 j (omega arith) (omega arith)));
-  }
-
   module _ (rise : InOrder cs) (fits : n ≤ length cs) (r : ℕ) (e : r ≡ composites_to cs y n) where
     -- a place's composite is at most y exactly before place r
     before : (j : ℕ) → j < n → get_or cs j 0 ≤ y → j < r
@@ -127,55 +111,3 @@ module _ (cs : List ℕ) (n y : ℕ) where
         here j h t =
             let b : j < r = before j h (omega arith) in
             omega (arith, at_most (r - 1) (omega (arith, inside)) (omega arith), rise j (r - 1) (omega arith) (omega (arith, inside)))
-
--- ---- the mark
-
-module _ (cs : List ℕ) (n y r : ℕ) (rise : InOrder cs) (fits : n ≤ length cs) (w : PairsEnd cs n y r) where
-  -- the last pair of composite y is the one before r
-  last_is : (j : ℕ) → j < n → get_or cs j 0 ≡ y → LastOwn cs n j → suc j ≡ r
-  last_is j h e next = go (is? (ltb j r)) (is? (ltb (suc j) r))
-    where
-      go : (ltb j r ≡ true) ⊎ (ltb j r ≡ false) → (ltb (suc j) r ≡ true) ⊎ (ltb (suc j) r ≡ false) → suc j ≡ r
-      go (inr t) q = absurd (w.past j (ltb-false j r t) h e)
-      go (inl t) (inl q) =
-          let l : suc j < r = ltb-true (suc j) r q in
-          absurd
-          (next (omega (arith, w.inside))
-          (omega (arith, w.own (omega arith), rise j (suc j) (omega arith) (omega (arith, w.inside)), rise (suc j) (r - 1) (omega arith) (omega (arith, w.inside)))))
-      go (inl t) (inr q) = omega (arith, ltb-true j r t, ltb-false (suc j) r q)
-
-  module _ (marks : List ℕ) where
-    pub mark_none : r ≡ 0 → Marked cs n y marks marks false
-    mark_none z = record { own = λ j t. inl t; kept = λ j t. t; last = λ j h e next. absurd (omega (arith, last_is j h e next)); before = λ t. absurd (false≢true t) }
-
-    pub mark_set : (r ≡ 0 → ⊥) → length cs ≤ length marks → Marked cs n y marks (set marks (r - 1) 1) (eqb (get_or marks (r - 1) 0) 1)
-    mark_set z room = record {
-      own = λ j q. own_at j q (is? (eqb j (r - 1)));
-      kept = λ j q. kept_at j q (is? (eqb j (r - 1)));
-      last = λ j h e next. here j (omega (arith, last_is j h e next));
-      before = λ t. record { place = r - 1; mark = eqb-true (get_or marks (r - 1) 0) 1 t; composite = w.own (omega arith) };
-    }
-      where
-        here : (j : ℕ) → j ≡ r - 1 → marked (set marks (r - 1) 1) j
-        here j e = rw e (get_or-set_same marks (r - 1) 1 0 (omega (arith, w.inside)))
-
-        own_at : (j : ℕ) → marked (set marks (r - 1) 1) j → (eqb j (r - 1) ≡ true) ⊎ (eqb j (r - 1) ≡ false) → marked marks j ⊎ (get_or cs j 0 ≡ y)
-        own_at j q (inl e) = inr (subst (λ (i : ℕ). get_or cs i 0 ≡ y) (sym (eqb-true j (r - 1) e)) (w.own (omega arith)))
-        own_at j q (inr e) = inl (sym (get_or-set_other marks (r - 1) j 1 0 (eqb-false j (r - 1) e)) ∙ q)
-
-        kept_at : (j : ℕ) → marked marks j → (eqb j (r - 1) ≡ true) ⊎ (eqb j (r - 1) ≡ false) → marked (set marks (r - 1) 1) j
-        kept_at j q (inl e) = here j (eqb-true j (r - 1) e)
-        kept_at j q (inr e) = get_or-set_other marks (r - 1) j 1 0 (eqb-false j (r - 1) e) ∙ q
-
--- ---- the table
-
-module _ (p h : ℕ) (seen : List ℕ) where
-  pub entered_before : get_or seen h 0 ≡ p → Entered p seen seen false
-  entered_before e = record { there = λ _. record { place = h; is = e }; entries = λ j. inr refl }
-
-  pub entered_now : h < length seen → Entered p seen (set seen h p) true
-  entered_now room = record { there = λ t. absurd (true≢false t); entries = λ j. at j (is? (eqb j h)) }
-    where
-      at : (j : ℕ) → (eqb j h ≡ true) ⊎ (eqb j h ≡ false) → (get_or (set seen h p) j 0 ≡ p) ⊎ (get_or (set seen h p) j 0 ≡ get_or seen j 0)
-      at j (inl e) = inl (rw (eqb-true j h e) (get_or-set_same seen h p 0 room))
-      at j (inr e) = inr (get_or-set_other seen h j p 0 (eqb-false j h e))

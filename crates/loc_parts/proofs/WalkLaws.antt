@@ -34,7 +34,7 @@ grown_now p l = record { there = member_first p l; kept = λ y t. member_later p
 
 module _ (cs ps : List ℕ) (x : ℕ) where
   -- at the end of the record's own pairs
-  pub walking_begins : (marks new seen : List ℕ) (r : ℕ) → PairsEnd cs (length cs) x r → ((j : ℕ) → marked marks j → ⊥) → {b : Bool} → Marked cs r x marks new b
+  pub walking_begins : (marks new : List Bool) (seen : List ℕ) (r : ℕ) → PairsEnd cs (length cs) x r → ((j : ℕ) → marked marks j → ⊥) → {b : Bool} → Marked cs r x marks new b
       → ((h : ℕ) → get_or seen h 0 ≡ 0) → Walking cs ps x new seen [] r
   walking_begins marks new seen r w none g clear = record {
     inside = w.inside;
@@ -56,7 +56,7 @@ module _ (cs ps : List ℕ) (x : ℕ) where
       own_mark j (inl q) = absurd (none j q)
       own_mark j (inr q) = q
 
-  module _ (marks seen found : List ℕ) (i : ℕ) (w : Walking cs ps x marks seen found (i + 1)) where
+  module _ (marks : List Bool) (seen found : List ℕ) (i : ℕ) (w : Walking cs ps x marks seen found (i + 1)) where
     abbrev c : ℕ
     c = get_or cs i 0
 
@@ -97,7 +97,7 @@ module _ (cs ps : List ℕ) (x : ℕ) where
         unwanted t = none (w.full i (omega arith) t (λ l e. absurd (omega arith)))
 
     -- it has one: it marked the last pairs before it of its composite and its component, which is found
-    module _ (fit : Fit cs ps) (mark : marked marks i) (marks₁ : List ℕ) {b₁ : Bool} (g : Marked cs i c marks marks₁ b₁) where
+    module _ (fit : Fit cs ps) (mark : marked marks i) (marks₁ : List Bool) {b₁ : Bool} (g : Marked cs i c marks marks₁ b₁) where
       falls : p < c
       falls = fit.below i (omega (arith, w.inside))
 
@@ -126,7 +126,7 @@ module _ (cs ps : List ℕ) (x : ℕ) where
       sound_after j (inl q) = w.sound j q
       sound_after j (inr q) = subst (Wanted x found) (sym q) want
 
-      module _ (marks₂ seen₁ found₁ : List ℕ) {b₂ : Bool} (k : Marked cs i p marks₁ marks₂ b₂) (n : Grown p found found₁) (entries : (h : ℕ) → (get_or seen₁ h 0 ≡ p) ⊎ (get_or seen₁ h 0 ≡ get_or seen h 0)) where
+      module _ (marks₂ : List Bool) (seen₁ found₁ : List ℕ) {b₂ : Bool} (k : Marked cs i p marks₁ marks₂ b₂) (n : Grown p found found₁) (entries : (h : ℕ) → (get_or seen₁ h 0 ≡ p) ⊎ (get_or seen₁ h 0 ≡ get_or seen h 0)) where
         still_wanted : {y : ℕ} → Wanted x found y → Wanted x found₁ y
         still_wanted (inl e) = inl e
         still_wanted {y} (inr e) = inr (n.kept y e)
@@ -174,11 +174,11 @@ module _ (cs ps : List ℕ) (x : ℕ) where
             met_at h l (inr e) = rw e (n.kept (get_or seen h 0) (w.met h (omega arith)))
 
       -- a component that is taken
-      pub walking_more : (marks₂ seen₁ : List ℕ) {b d : Bool} → Entered p seen seen₁ b → Marked cs i p marks₁ marks₂ d → Walking cs ps x marks₂ seen₁ (p ∷ found) i
+      pub walking_more : (marks₂ : List Bool) (seen₁ : List ℕ) {b d : Bool} → Entered p seen seen₁ b → Marked cs i p marks₁ marks₂ d → Walking cs ps x marks₂ seen₁ (p ∷ found) i
       walking_more marks₂ seen₁ v k = walking_on marks₂ seen₁ (p ∷ found) k (grown_now p found) v.entries
 
       -- one whose last pair has its mark: it is found, since it is not the record
-      pub walking_marked : (marks₂ seen₁ : List ℕ) {b d : Bool} → Entered p seen seen₁ b → Marked cs i p marks₁ marks₂ d → d ≡ true → Walking cs ps x marks₂ seen₁ found i
+      pub walking_marked : (marks₂ : List Bool) (seen₁ : List ℕ) {b d : Bool} → Entered p seen seen₁ b → Marked cs i p marks₁ marks₂ d → d ≡ true → Walking cs ps x marks₂ seen₁ found i
       walking_marked marks₂ seen₁ v k t = walking_on marks₂ seen₁ found k (grown_before p found known) v.entries
         where
           had : HasMark cs p marks₁
@@ -209,7 +209,7 @@ module _ (cs ps : List ℕ) (x : ℕ) where
 
   -- ---- the end
 
-  module _ (marks seen found : List ℕ) (w : Walking cs ps x marks seen found 0) where
+  module _ (marks : List Bool) (seen found : List ℕ) (w : Walking cs ps x marks seen found 0) where
     pair_found : {a y : ℕ} → PairOf cs ps a y → Wanted x found a → member y found ≡ true
     pair_found v t =
         subst (λ (y : ℕ). member y found ≡ true) v.component
@@ -224,7 +224,7 @@ module _ (cs ps : List ℕ) (x : ℕ) where
 
 -- ---- the stage, at whose end the components stand
 
-module _ (cs ps : List ℕ) (x : ℕ) (marks seen stage : List ℕ) where
+module _ (cs ps : List ℕ) (x : ℕ) (marks : List Bool) (seen stage : List ℕ) where
   pub place_is : (s i j : ℕ) → i ≡ j → Walking cs ps x marks seen (drop s stage) i → Walking cs ps x marks seen (drop s stage) j
   place_is s i j e w = subst (Walking cs ps x marks seen (drop s stage)) e w
 

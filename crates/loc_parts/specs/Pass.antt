@@ -17,21 +17,21 @@ pub record PairsEnd (cs : List ℕ) (n y r : ℕ) : Type 0 where
   pub past : (j : ℕ) → r ≤ j → j < n → get_or cs j 0 ≡ y → ⊥
 
 -- place j has a mark
-abbrev pub marked : List ℕ → ℕ → Type 0
-marked marks j = get_or marks j 0 ≡ 1
+abbrev pub marked : List Bool → ℕ → Type 0
+marked marks j = get_or marks j false ≡ true
 
 -- of the first n pairs, none after place j has its composite
 abbrev pub LastOwn : List ℕ → ℕ → ℕ → Type 0
 LastOwn cs n j = suc j < n → get_or cs (suc j) 0 ≡ get_or cs j 0 → ⊥
 
 -- a pair with composite y has a mark
-pub record HasMark (cs : List ℕ) (y : ℕ) (marks : List ℕ) : Type 0 where
+pub record HasMark (cs : List ℕ) (y : ℕ) (marks : List Bool) : Type 0 where
   pub place : ℕ
   pub mark : marked marks place
   pub composite : get_or cs place 0 ≡ y
 
 -- the marks of old, and one at the last of the first n pairs that has composite y, if there is one; the answer is yes only where it had its mark
-pub record Marked (cs : List ℕ) (n y : ℕ) (old new : List ℕ) (r : Bool) : Type 0 where
+pub record Marked (cs : List ℕ) (n y : ℕ) (old new : List Bool) (r : Bool) : Type 0 where
   pub own : (j : ℕ) → marked new j → marked old j ⊎ (get_or cs j 0 ≡ y)
   pub kept : (j : ℕ) → marked old j → marked new j
   pub last : (j : ℕ) → j < n → get_or cs j 0 ≡ y → LastOwn cs n j → marked new j
@@ -58,7 +58,7 @@ Wanted x found c = (c ≡ x) ⊎ (member c found ≡ true)
 -- the pairs from place i on are passed: the components found are needed, and those of wanted composites are found;
 -- a pair with a mark has a wanted composite, and of the pairs before i that have one wanted composite the last has a mark;
 -- what stands in the table is found
-pub record Walking (cs ps : List ℕ) (x : ℕ) (marks seen found : List ℕ) (i : ℕ) : Type 0 where
+pub record Walking (cs ps : List ℕ) (x : ℕ) (marks : List Bool) (seen found : List ℕ) (i : ℕ) : Type 0 where
   pub inside : i ≤ length cs
   pub chained : (y : ℕ) → member y found ≡ true → Needs cs ps x y
   pub closed : (j : ℕ) → i ≤ j → j < length cs → Wanted x found (get_or cs j 0) → member (get_or ps j 0) found ≡ true
@@ -67,7 +67,7 @@ pub record Walking (cs ps : List ℕ) (x : ℕ) (marks seen found : List ℕ) (i
   pub met : (h : ℕ) → 0 < get_or seen h 0 → member (get_or seen h 0) found ≡ true
 
 -- what it begins with, for so many pairs: no mark, no entry in the table, and room in each
-pub record Cleared (pairs : ℕ) (marks stage seen : List ℕ) : Type 0 where
+pub record Cleared (pairs : ℕ) (marks : List Bool) (stage seen : List ℕ) : Type 0 where
   pub for_marks : pairs ≤ length marks
   pub for_components : pairs ≤ length stage
   pub for_table : 64 ≤ length seen

@@ -1,8 +1,7 @@
 -- What 16 leaves of a call whose other refusals are tested: the answer, and the buffer, by the list that is found.
 -- A refusal leaves the buffer.
 use Rattle.std.specs.Prelude.{ℕ, ◌≡◌, List, ltb, length}
-use Rattle.loc_leaf.specs.declared.Answer.{Answer}
-use Rattle.loc_leaf.specs.Answers.{refuse, answer}
+use Rattle.loc_leaf.specs.Answers.{refuse, answer, Answer}
 use Rattle.loc_calls.specs.Calls.{unless_refused}
 use Rattle.loc_calls.specs.Parts.{written}
 

@@ -5,3 +5,10 @@
 pub mod call;
 pub mod check;
 pub mod pass;
+
+// The entries of two lists at one place are a pair.
+#[derive(Clone, Copy)]
+pub struct Pairs<'a> {
+    pub composites: &'a [u64],
+    pub components: &'a [u64],
+}

@@ -5,7 +5,7 @@ ghost use Rattle.loc_calls.specs.Parts.{InOrder, Fit, needed};
 ghost use Rattle.loc_order.specs.Order.{sorted};
 ghost use Rattle.loc_parts.specs.Pass.{composites_to, PairsEnd, marked, Marked, Entered, Walking, Cleared, distinct};
 
-use loc_leaf::delta_loc::one_if;
+use crate::Pairs;
 use loc_order::sort_keys;
 
 // How many of the composites before `end` are at most y: by quarters, and no branch depends on a composite.
@@ -13,24 +13,25 @@ fn composites_to(composites: &[u64], end: usize, y: u64) -> usize
     requires { InOrder composites.now × (end ≤ length composites.now) }
     ensures { result ≡ composites_to composites.now y end }
 {
-    let mut at: usize = 0;
+    let mut at = 0;
     let mut left = end;
+    // no count: three quarters of what is left are passed or dropped at once
     while 3 <= left {
         let quarter = (left + 1) / 4;
-        let one = one_if(composites[at + quarter - 1] <= y);
-        let two = one_if(composites[at + 2 * quarter - 1] <= y);
-        let three = one_if(composites[at + 3 * quarter - 1] <= y);
+        let one = usize::from(composites[at + quarter - 1] <= y);
+        let two = usize::from(composites[at + 2 * quarter - 1] <= y);
+        let three = usize::from(composites[at + 3 * quarter - 1] <= y);
         at += (one + two + three) * quarter;
         left -= 3 * quarter;
     }
-    while 0 < left {
-        at += one_if(composites[at] <= y);
-        left -= 1;
+    for _ in 0..left {
+        at += usize::from(composites[at] <= y);
     }
     at
 }
 
 // One past the last pair before `end` that has composite y; 0 where there is none.
+// A number and no Option: it is the end of a range, and the pass goes down from it.
 fn pairs_end(composites: &[u64], end: usize, y: u64) -> usize
     requires { InOrder composites.now × (end ≤ length composites.now) }
     ensures { PairsEnd composites.now end y result }
@@ -39,24 +40,18 @@ fn pairs_end(composites: &[u64], end: usize, y: u64) -> usize
         return 0;
     }
     let last = composites[end - 1];
-    if last < y {
-        return 0;
-    }
     if last == y {
         return end;
     }
-    if y < composites[0] {
+    if last < y || y < composites[0] {
         return 0;
     }
     let r = composites_to(composites, end, y);
-    if composites[r - 1] == y {
-        return r;
-    }
-    0
+    if composites[r - 1] == y { r } else { 0 }
 }
 
 // Marks the last pair before `end` that has composite y, if there is one; whether it had its mark.
-fn mark_last(composites: &[u64], end: usize, y: u64, marks: &mut [u8]) -> bool
+fn mark_last(composites: &[u64], end: usize, y: u64, marks: &mut [bool]) -> bool
     requires { InOrder composites.now × (end ≤ length composites.now) × (length composites.now ≤ length marks.old) }
     ensures { Marked composites.now end y marks.old marks.new result }
 {
@@ -64,8 +59,8 @@ fn mark_last(composites: &[u64], end: usize, y: u64, marks: &mut [u8]) -> bool
     if r == 0 {
         return false;
     }
-    let before = marks[r - 1] == 1;
-    marks[r - 1] = 1;
+    let before = marks[r - 1];
+    marks[r - 1] = true;
     before
 }
 
@@ -97,23 +92,22 @@ fn enter(seen: &mut [u64], p: u64) -> bool
 
 // Takes the component of the pair at i, which has a mark; the answer is where the stage's components then begin.
 fn take_pair(
-    composites: &[u64],
-    components: &[u64],
+    pairs: Pairs,
     i: usize,
-    marks: &mut [u8],
+    marks: &mut [bool],
     seen: &mut [u64],
     stage: &mut [u64],
     s: usize,
 ) -> usize
-    requires { Fit composites.now components.now × (i < length composites.now) × (length composites.now ≤ length marks.old) × marked marks.old i × (64 ≤ length seen.old) × (i < s) × (s ≤ length stage.old) }
+    requires { Fit pairs.composites.now pairs.components.now × (i < length pairs.composites.now) × (length pairs.composites.now ≤ length marks.old) × marked marks.old i × (64 ≤ length seen.old) × (i < s) × (s ≤ length stage.old) }
     ensures { (i ≤ result) × (result ≤ length stage.new)
-        × ((x : ℕ) → Walking composites.now components.now x marks.old seen.old (drop s stage.old) (i + 1)
-        → Walking composites.now components.now x marks.new seen.new (drop result stage.new) i) }
+        × ((x : ℕ) → Walking pairs.entry.composites.now pairs.entry.components.now x marks.old seen.old (drop s stage.old) (i + 1)
+        → Walking pairs.entry.composites.now pairs.entry.components.now x marks.new seen.new (drop result stage.new) i) }
 {
-    mark_last(composites, i, composites[i], marks);
-    let p = components[i];
+    mark_last(pairs.composites, i, pairs.composites[i], marks);
+    let p = pairs.components[i];
     if enter(seen, p) {
-        if mark_last(composites, i, p, marks) {
+        if mark_last(pairs.composites, i, p, marks) {
             return s;
         }
         stage[s - 1] = p;
@@ -123,24 +117,16 @@ fn take_pair(
 }
 
 // The components of the pairs that count, at the end of the stage; the answer is where they begin.
-fn walk(
-    composites: &[u64],
-    components: &[u64],
-    record: u64,
-    marks: &mut [u8],
-    seen: &mut [u64],
-    stage: &mut [u64],
-) -> usize
-    requires { Fit composites.now components.now × Cleared (length composites.now) marks.old stage.old seen.old }
-    ensures { (result ≤ length stage.new) × Walking composites.now components.now «record» marks.new seen.new (drop result stage.new) 0 }
+fn walk(pairs: Pairs, record: u64, marks: &mut [bool], seen: &mut [u64], stage: &mut [u64]) -> usize
+    requires { Fit pairs.composites.now pairs.components.now × Cleared (length pairs.composites.now) marks.old stage.old seen.old }
+    ensures { (result ≤ length stage.new) × Walking pairs.entry.composites.now pairs.entry.components.now «record» marks.new seen.new (drop result stage.new) 0 }
 {
-    let mut i = pairs_end(composites, composites.len(), record);
-    mark_last(composites, i, record, marks);
+    let end = pairs_end(pairs.composites, pairs.composites.len(), record);
+    mark_last(pairs.composites, end, record, marks);
     let mut s = stage.len();
-    while 0 < i {
-        i -= 1;
-        if marks[i] == 1 {
-            s = take_pair(composites, components, i, marks, seen, stage, s);
+    for i in (0..end).rev() {
+        if marks[i] {
+            s = take_pair(pairs, i, marks, seen, stage, s);
         }
     }
     s
@@ -151,12 +137,9 @@ fn keep_distinct(src: &[u64], out: &mut [u64]) -> usize
     requires { length src.now ≤ length out.old }
     ensures { (result ≤ length src.now) × (take result out.new ≡ distinct 0 src.now) }
 {
-    let mut r: usize = 0;
-    let mut last: u64 = 0;
-    let mut i: usize = 0;
-    while i < src.len() {
-        let y = src[i];
-        i += 1;
+    let mut r = 0;
+    let mut last = 0;
+    for &y in src {
         if y != last {
             out[r] = y;
             r += 1;
@@ -177,17 +160,16 @@ fn sort_distinct(numbers: &mut [u64], out: &mut [u64]) -> usize
 }
 
 // The records that a record needs, at the front of `list`; the answer is how many.
-pub fn needed_records(
-    composites: &[u64],
-    components: &[u64],
+pub(crate) fn needed_records(
+    pairs: Pairs,
     record: u64,
-    marks: &mut [u8],
+    marks: &mut [bool],
     stage: &mut [u64],
     list: &mut [u64],
 ) -> usize
-    requires { Fit composites.now components.now × Cleared (length composites.now) marks.old stage.old list.old }
-    ensures { (result ≤ length list.old) × (take result list.new ≡ needed composites.now components.now «record») }
+    requires { Fit pairs.composites.now pairs.components.now × Cleared (length pairs.composites.now) marks.old stage.old list.old }
+    ensures { (result ≤ length list.old) × (take result list.new ≡ needed pairs.entry.composites.now pairs.entry.components.now «record») }
 {
-    let s = walk(composites, components, record, marks, list, stage);
+    let s = walk(pairs, record, marks, list, stage);
     sort_distinct(&mut stage[s..], list)
 }

@@ -10,9 +10,8 @@ use Rattle.loc_calls.specs.Calls.{unless_refused, create}
 use Rattle.loc_history.specs.History.{AllSized}
 use Rattle.loc_history.proofs.Steady.{count_book}
 use Rattle.loc_parse.specs.Import.{append_listing}
-use Rattle.loc_load.specs.declared.Request.{Request}
 use Rattle.loc_load.specs.Load.{load, load_entries, load_listing}
-use Rattle.loc_load.specs.Request.{requested, load_text}
+use Rattle.loc_load.specs.Request.{Asked, requested, load_text}
 use Rattle.loc_load.proofs.LoadLaws.{load_length}
 use Rattle.loc_load.proofs.RequestLaws.{asked_few}
 use Rattle.loc_round_trip.specs.RoundTrip.{Enough}
@@ -49,5 +48,5 @@ module _ (seed n : ℕ) (few : n ≤ 1024) (b : Areas) (z : AllSized b) (room : 
 pub piped : Piped
 unfolding Piped load_text unless_refused
 piped xs e b z room first second h g =
-    let q : Request = requested xs in
+    let q : Asked = requested xs in
     rw (e, le-leb (53 + 126 * q.records) first h) (shown_is q.seed q.records (asked_few xs q refl e) b z room second g)

@@ -2,8 +2,7 @@
 -- The call itself, not the book's answer, at lengths around each row.
 use Rattle.std.specs.Prelude.{ℕ, ◌≡◌, List, [], ◌∷◌}
 use Rattle.loc_leaf.specs.declared.Kind.TheVariants.{Paired, Single}
-use Rattle.loc_leaf.specs.declared.Answer.{Answer}
-use Rattle.loc_leaf.specs.Answers.{answer}
+use Rattle.loc_leaf.specs.Answers.{answer, Answer}
 use Rattle.loc_calls.specs.Table.{append}
 use Rattle.loc_calls.specs.Calls.{create}
 use Rattle.loc_calls.specs.Withheld.{withheld}

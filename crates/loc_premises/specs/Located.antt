@@ -1,18 +1,17 @@
 -- Whose crossing is at an address at the ends of two lawful histories: one with listings and tears, one over a window's edge.
 -- The call itself, not the book's answer.
 use Rattle.std.specs.Prelude.{ℕ, ◌≡◌, List, [], ◌∷◌}
-use Rattle.loc_calls.specs.declared.SpanAt.{SpanAt}
 use Rattle.loc_calls.specs.Areas.{Areas}
 use Rattle.loc_calls.specs.Table.{append}
 use Rattle.loc_calls.specs.Calls.{create}
-use Rattle.loc_calls.specs.SpanAt.{refused_by, span_at}
+use Rattle.loc_calls.specs.SpanAt.{Crossing, refused_by, span_at}
 use Rattle.loc_history.specs.History.{finished}
 use Rattle.loc_round_trip.specs.Listings.{AnyEvent, event, any_index_at_end}
 use Rattle.loc_premises.specs.Replies.{small, wide}
 use Rattle.loc_premises.specs.Lawful.{long}
 use Rattle.loc_premises.specs.Listed.{listed_story}
 
-abbrev pub located : ℕ → ℕ → ℕ → SpanAt
+abbrev pub located : ℕ → ℕ → ℕ → Crossing
 located id i m = record { number = 0; «record» = id; index = i; remainder = m }
 
 -- records 1 to 4 have 3, 1, 1 and 1 spans

@@ -26,9 +26,11 @@ unfolding numbers_after
 numbers_long m zero = refl
 numbers_long m (suc n) = omega (arith, length-append (numbers_after m n) ((m + suc n) ∷ []), numbers_long m n)
 
-pub numbers_more : (m i : ℕ) (l : List ℕ) → i < length l → take i l ≡ numbers_after m i → take (i + 1) (set l i (m + (i + 1))) ≡ numbers_after m (i + 1)
+pub numbers_more : (m i : ℕ) (l : List ℕ) → i < length l → take i l ≡ numbers_after m i → take (i + 1) (set l i (m + 1 + i)) ≡ numbers_after m (i + 1)
 unfolding numbers_after
-numbers_more m i l h e = rw (add-one i, take-suc-set l i (m + suc i) h, e) refl
+numbers_more m i l h e =
+    let number : m + 1 + i ≡ m + suc i = omega arith in
+    rw (number, add-one i, take-suc-set l i (m + suc i) h, e) refl
 
 numbers_at : (m n i : ℕ) → i < n → get_or (numbers_after m n) i 0 ≡ m + suc i
 unfolding numbers_after

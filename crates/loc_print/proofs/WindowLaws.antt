@@ -9,7 +9,7 @@ use lib.ListN.{length, take, drop}
 use borrow.Author.Tests.{lt-ltb, le-ltb, le-leb, lt-leb}
 use borrow.Rule.Slice.PartMut.{put_mid}
 use Rattle.loc_leaf.specs.declared.Kind.TheVariants.{Paired}
-use Rattle.loc_leaf.specs.declared.Answer.{Answer}
+use Rattle.loc_leaf.specs.Answers.{Answer}
 use Rattle.loc_leaf.specs.Bytes.{Bytes}
 use Rattle.loc_leaf.specs.Area.{fill}
 use Rattle.loc_calls.specs.Areas.{Areas, areas, count}
@@ -19,10 +19,9 @@ use Rattle.loc_calls.specs.Calls.{unless_refused, unread, is_opening, first_refu
 use Rattle.loc_calls.specs.Promises.{Read}
 use Rattle.loc_calls.proofs.Outcomes.{refusal_after}
 use Rattle.loc_calls.proofs.Refused.{number_is}
-use Rattle.loc_listing.specs.Text.{record_lines, names, refused_line, fits, names_text, window_text, refused_text, Put}
+use Rattle.loc_listing.specs.Text.{names, refused_line, fits, names_text, window_text, refused_text, Put}
 use Rattle.loc_listing.specs.Listing.{line_for, lines_after}
-use Rattle.loc_listing.proofs.TextLaws.{put_then, put_nothing, put_part}
-use Rattle.loc_print.specs.declared.Part.{Part}
+use Rattle.loc_listing.proofs.TextLaws.{put_then, put_nothing, put_part, part_long}
 use Rattle.loc_print.specs.Printed.{numbers_after, window_refusal, window_lines, window_size, windows_from, window_count, printed, listing_text}
 use Rattle.loc_print.proofs.ReadingLaws.{numbers_long, words_at, lines_of}
 
@@ -37,7 +36,7 @@ module _ (a : Areas) (m n : ℕ) (few : n ≤ 1024) (old : List ℕ) (room : 6 *
       ∙ rw (numbers_long m n, le-ltb 1024 n few, le-ltb (length old) (6 * n) room) refl
 
   module _ (ids : List ℕ) (e : ids ≡ numbers_after m n) (r : Answer) (ws : List ℕ) (h : Read (call Paired 0 (read ids old) a) r ws) where
-    read_number : r.number ≡ window_refusal a m n
+    pub read_number : r.number ≡ window_refusal a m n
     unfolding call
     read_number = ap (λ (x : Answer). x.number) h.0 ∙ number_is (refusal Paired (read ids old) a) _ ∙ rw e reading_refusal
 
@@ -45,39 +44,18 @@ module _ (a : Areas) (m n : ℕ) (few : n ≤ 1024) (old : List ℕ) (room : 6 *
     unfolding call unless_refused buffer
     read_words z = h.1 ∙ rw (e, reading_refusal, ← read_number, z) refl
 
-    -- refused
-    pub window_refused : (r.number ≡ 0 → ⊥) → 0 < n → (out out₁ : List ℕ) (k : ℕ) → 126 * n ≤ length out
-        → Put out 0 (refused_text r.number (length out)) out₁ k × (k ≤ length out) × (k ≤ 29)
-        → (r.number ≡ window_refusal a m n) × Put out 0 (window_lines a m n) out₁ k × (k ≤ 126 * n)
-    unfolding window_lines refused_text
-    window_refused f some out out₁ k long p = (read_number, subst (λ (t : List ℕ). Put out 0 t out₁ k) text p.0, omega (arith, p.2))
-      where
-        go : (i : ℕ) → (i ≡ 0 → ⊥) → refused_line i ≡ unless_refused i (lines_after a m n) (refused_line i)
-        go zero f = absurd (f refl)
-        go (suc i) f = unfold unless_refused in refl
-
-        text : refused_text r.number (length out) ≡ window_lines a m n
-        text = rw (le-leb 29 (length out) (omega arith), ← read_number) (go r.number f)
-
-    -- read
     pub window_read : r.number ≡ 0 → m + 1 + n < 2 ^ 64 → (out out₁ : List ℕ) (k : ℕ) → 126 * n ≤ length out → length ws ≡ length old
-        → Put out 0 (window_text (m + 1) ws n (length out)) out₁ k × (k ≤ length out) × (k ≤ 126 * n)
-        → (0 ≡ window_refusal a m n) × Put out 0 (window_lines a m n) out₁ k × (k ≤ 126 * n)
-    unfolding window_lines window_text fits unless_refused
-    window_read z last out out₁ k long same p = (sym z ∙ read_number, subst (λ (t : List ℕ). Put out 0 t out₁ k) text p.0, p.2)
+        → Put out 0 (window_text (m + 1) ws n (length out)) out₁ k × (k ≤ length out) × (k ≤ 126 * n) → Put out 0 (lines_after a m n) out₁ k × (k ≤ 126 * n)
+    unfolding window_text fits
+    window_read z last out out₁ k long same p = (subst (λ (t : List ℕ). Put out 0 t out₁ k) text p.0, p.2)
       where
-        lines : record_lines (m + 1) ws n ≡ lines_after a m n
-        lines = lines_of a m ws n (λ i h. rw (read_words z) (words_at a m n old i h))
-
-        text : window_text (m + 1) ws n (length out) ≡ window_lines a m n
+        text : window_text (m + 1) ws n (length out) ≡ lines_after a m n
         text =
             rw (
               le-leb (126 * n) (length out) long,
               le-leb (6 * n) (length ws) (omega arith),
               lt-ltb (m + 1 + n) (2 ^ 64) last,
-              ← read_number,
-              z,
-            ) lines
+            ) (lines_of a m ws n (λ i h. rw (read_words z) (words_at a m n old i h)))
 
 -- ---- windows
 
@@ -125,36 +103,36 @@ module _ (s r c : Bytes) (total : ℕ) (known : total ≡ fill 2 s) where
     unfolding windows_from
     next = left ∙ rw one_more (ap (λ (i : ℕ). lines_after whole 0 done ++ (window_lines whole done i ++ unless_refused (window_refusal whole done i) (windows_from whole (done + i) (window_count (count whole - (done + n)))) [])) size_is)
 
-    module _ (out out₁ ys : List ℕ) (p at : ℕ) (sofar : Put out p (lines_after whole 0 done) out₁ at) (t : Part)
-        (w : (t.number ≡ window_refusal whole done n) × Put (take (length out₁ - at) (drop at out₁)) 0 (window_lines whole done n) ys t.bytes × (t.bytes ≤ 126 * n)) where
-      together : Put out p (lines_after whole 0 done ++ window_lines whole done n) (put_mid at (length out₁ - at) out₁ ys) (at + t.bytes)
-      together = put_then _ _ sofar (put_part out₁ at (window_lines whole done n) ys t.bytes w.1)
-
-      -- the last window
-      pub turn_refused : (t.number ≡ 0 → ⊥) → Put out p (windows_from whole 0 (window_count (count whole))) (put_mid at (length out₁ - at) out₁ ys) (at + t.bytes)
-      turn_refused f = subst (λ (x : List ℕ). Put out p x (put_mid at (length out₁ - at) out₁ ys) (at + t.bytes)) (sym (next ∙ ended)) together
+    module _ (out out₁ : List ℕ) (p at : ℕ) (sofar : Put out p (lines_after whole 0 done) out₁ at) where
+      -- the last window: what is put behind is the line of its refusal
+      pub turn_refused : (i : ℕ) → i ≡ window_refusal whole done n → (i ≡ 0 → ⊥) → 29 ≤ length out₁ - at → (ys : List ℕ) (k : ℕ)
+          → Put (take (length out₁ - at) (drop at out₁)) 0 (refused_text i (length (take (length out₁ - at) (drop at out₁)))) ys k
+          → Put out p (windows_from whole 0 (window_count (count whole))) (put_mid at (length out₁ - at) out₁ ys) (at + k)
+      unfolding window_lines unless_refused refused_text
+      turn_refused zero e f room ys k w = absurd (f refl)
+      turn_refused (suc i) e f room ys k w =
+          subst (λ (x : List ℕ). Put out p x (put_mid at (length out₁ - at) out₁ ys) (at + k)) (sym (next ∙ ended))
+          (put_then _ _ sofar (put_part out₁ at (refused_line (suc i)) ys k (rw (part_long out₁ at, le-leb 29 (length out₁ - at) room) at w)))
         where
-          none : (i : ℕ) → (i ≡ 0 → ⊥) → (x : List ℕ) → unless_refused i x [] ≡ []
-          none zero f x = absurd (f refl)
-          none (suc i) f x = unfold unless_refused in refl
-
           ended : lines_after whole 0 done ++ (window_lines whole done n ++ unless_refused (window_refusal whole done n) (windows_from whole (done + n) (window_count (count whole - (done + n)))) [])
-              ≡ lines_after whole 0 done ++ window_lines whole done n
-          ended = rw (none (window_refusal whole done n) (λ z. f (w.0 ∙ z)) (windows_from whole (done + n) (window_count (count whole - (done + n)))), append-nil) refl
+              ≡ lines_after whole 0 done ++ refused_line (suc i)
+          ended = rw (← e, append-nil) refl
 
-      module _ (z : t.number ≡ 0) where
+      module _ (z : 0 ≡ window_refusal whole done n) where
         lines_are : window_lines whole done n ≡ lines_after whole done n
         unfolding window_lines unless_refused
-        lines_are = rw (← w.0, z) refl
+        lines_are = rw (← z) refl
 
-        pub turn_put : Put out p (lines_after whole 0 (done + n)) (put_mid at (length out₁ - at) out₁ ys) (at + t.bytes)
-        turn_put = subst (λ (x : List ℕ). Put out p x (put_mid at (length out₁ - at) out₁ ys) (at + t.bytes)) (ap (λ (x : List ℕ). lines_after whole 0 done ++ x) lines_are ∙ sym (lines_join whole done n)) together
+        pub turn_put : (ys : List ℕ) (k : ℕ) → Put (take (length out₁ - at) (drop at out₁)) 0 (lines_after whole done n) ys k
+            → Put out p (lines_after whole 0 (done + n)) (put_mid at (length out₁ - at) out₁ ys) (at + k)
+        turn_put ys k w =
+            subst (λ (x : List ℕ). Put out p x (put_mid at (length out₁ - at) out₁ ys) (at + k)) (sym (lines_join whole done n)) (put_then _ _ sofar (put_part out₁ at (lines_after whole done n) ys k w))
 
         pub turn_left : Left whole (done + n)
         unfolding unless_refused
         turn_left =
             next
-            ∙ rw (lines_are, ← w.0, z) (sym (append_assoc (lines_after whole 0 done) (lines_after whole done n) (windows_from whole (done + n) (window_count (count whole - (done + n))))))
+            ∙ rw (lines_are, ← z) (sym (append_assoc (lines_after whole 0 done) (lines_after whole done n) (windows_from whole (done + n) (window_count (count whole - (done + n))))))
             ∙ ap (λ (x : List ℕ). x ++ windows_from whole (done + n) (window_count (count whole - (done + n)))) (sym (lines_join whole done n))
 
   -- no window left

@@ -5,10 +5,3 @@
 pub mod calls;
 pub mod listing;
 mod window;
-
-// What was put of a window: its lines and 0, or the line of the refusal and its number.
-#[derive(Clone, Copy)]
-struct Part {
-    number: u64,
-    bytes: usize,
-}

@@ -71,7 +71,7 @@ turn k a n nr ids keys i end stamp mark window rs id w m e ew ei rd ks run =
 pub planned_past : (rs : List Bytes) (f m : ℕ) (window : PlannedWindow) → window ≡ planned rs f m → window.past ≡ rows_up_to (window.base + 1024) rs
 planned_past rs f m window e = subst⁻¹ (λ (v : PlannedWindow). v.past ≡ rows_up_to (v.base + 1024) rs) e refl
 
-module _ (k : Kind) (a : Areas) (n nr : ℕ) (ids keys : List ℕ) (i end stamp : ℕ) (mark : List ℕ) (window : PlannedWindow) (u : Turn k a n nr ids keys i end stamp mark window) where
+module _ {k : Kind} {a : Areas} {n nr : ℕ} {ids keys : List ℕ} {i end stamp : ℕ} {mark : List ℕ} {window : PlannedWindow} (u : Turn k a n nr ids keys i end stamp mark window) where
   pub turn_few : window.m ≤ 1024
   turn_few = omega (arith, u.run.is_most, looked_few k n (wanted_by ids keys u.run.most))
 
@@ -184,5 +184,5 @@ module _ (k : Kind) (a : Areas) (ids : List ℕ) where
         go (inr e) =
             w.kept p (subst⁻¹ (λ (x : List ℕ). HasRight k a ids x p) z (zeros_has k a (length old) (get_or ids p 0) p (rw (← is_count) e)))
 
-    pub finished_0 : (number : ℕ) → number ≡ 0 → old ≡ replicate (length old) 0 → Finished k a ids out number
-    finished_0 number e z = record { refused = rw (e, none_missing ids all_complete) refl; answered = λ q. all_answered z }
+    pub finished_0 : old ≡ replicate (length old) 0 → Finished k a ids out 0
+    finished_0 z = record { refused = rw (none_missing ids all_complete) refl; answered = λ q. all_answered z }

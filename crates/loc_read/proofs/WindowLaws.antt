@@ -9,6 +9,8 @@ use native.Mathlib.Nat.{le_refl}
 use native.Mathlib.Numerals.{add-one}
 use native.Mathlib.Omega.{arith}
 use lib.ListN.{length, get_or}
+use Rattle.std.specs.Prelude.{Option, Some, None}
+use Rattle.std.specs.Option.{is_some}
 use Rattle.loc_leaf.specs.declared.Kind.{Kind}
 use Rattle.loc_leaf.specs.declared.Kind.TheVariants.{Paired, Single}
 use Rattle.loc_leaf.specs.declared.Value.{Value}
@@ -24,12 +26,12 @@ use Rattle.loc_order.proofs.OrderLaws.{all_at}
 use Rattle.loc_answer.specs.Words.{Summed, sum_words}
 use Rattle.loc_window.specs.declared.PlannedWindow.{PlannedWindow}
 use Rattle.loc_window.specs.declared.Sums.{Sums}
-use Rattle.loc_window.specs.Window.{window_areas, complete, Rising, sums_of, Right, Summing, Copied}
+use Rattle.loc_window.specs.Window.{window_areas, complete, Rising, sums_of, Right, Summing, WindowSummed, Copied}
 use Rattle.loc_window.specs.Planned.{planned}
 use Rattle.loc_window.proofs.SumLaws.{all_more}
 use Rattle.loc_window.proofs.PlannedLaws.{planned_before, planned_passed}
 use Rattle.loc_window.proofs.WindowLaws.{complete_same, right_strides, right_spans}
-use Rattle.loc_window.proofs.SummingLaws.{summing_begins, summed_known, summed_stored}
+use Rattle.loc_window.proofs.SummingLaws.{summing_begins}
 use Rattle.loc_runs.specs.Runs.{IsRun}
 use Rattle.loc_read.specs.Walk.{Readable, InArrays}
 use Rattle.loc_runs.proofs.RunLaws.{looked_own, key_some, key_counted}
@@ -44,16 +46,27 @@ summing_planned k f m bytes rows nr mark stamp body span window e few low rise e
     subst⁻¹ (λ (v : PlannedWindow). v.m ≤ 1024 → v.base + 1024 < 2 ^ 64 → Summing k 1025 v.base v.m bytes rows v.past mark stamp 0 (sums_of 0 0 v.first 0) body span) e
     (λ g l. summing_begins k 1025 f m bytes rows _ mark stamp _ body span g (omega arith) l (planned_before k rows nr rise (f + 1024)) (planned_passed k rows nr rise f) (omega arith) e₁ e₂) few low
 
--- in these arrays the loop has ended
-pub arrays_summing : (k : Kind) (f m : ℕ) (bytes rows : Bytes) (past : ℕ) (mark : List ℕ) (stamp block : ℕ) (s : Sums) (body span : List ℕ) → Summing k 1025 f m bytes rows past mark stamp block s body span → m ≤ 8 * block
-    → InArrays k f m bytes rows mark stamp body span
-arrays_summing k f m bytes rows past mark stamp block s body span w h =
-    record {
-      known = summed_known k 1025 f m bytes rows past mark stamp block s body span w h;
-      stored = summed_stored k 1025 f m bytes rows past mark stamp block s body span w h;
-      body_long = w.body_long;
-      span_long = w.span_long;
-    }
+-- what the window's sums ask
+pub summing_asked : (k : Kind) (f m : ℕ) (bytes rows : Bytes) (nr : ℕ) (mark : List ℕ) (stamp : ℕ) (body span : List ℕ) (window : PlannedWindow) → window ≡ planned (row_list k rows) f m
+    → window.m ≤ 1024 → window.base + 1024 < 2 ^ 64 → Rising k rows nr → length mark ≡ 128 → length bytes ≡ 2048 → length body ≡ 1025 → length span ≡ 1025
+    → (length mark ≡ 128) × Summing k (length body) window.base window.m bytes rows window.past mark stamp 0 (sums_of 0 0 window.first 0) body span
+summing_asked k f m bytes rows nr mark stamp body span window e few low rise el eb e₁ e₂ = (
+  el,
+  subst⁻¹ (λ (i : ℕ). Summing k i window.base window.m bytes rows window.past mark stamp 0 (sums_of 0 0 window.first 0) body span) e₁
+      (summing_planned k f m bytes rows nr mark stamp body span window e few low rise eb e₁ e₂),
+)
+
+-- the sums are stored in these arrays, or a record lacks its row
+module _ (k : Kind) (f m : ℕ) (bytes rows : Bytes) (mark : List ℕ) (stamp : ℕ) (body span : List ℕ) where
+  pub arrays_summed : (r : Option Sums) → WindowSummed k f bytes rows mark stamp m body span r → is_some r ≡ true → length body ≡ 1025 → length span ≡ 1025 → InArrays k f m bytes rows mark stamp body span
+  unfolding WindowSummed
+  arrays_summed (Some s) v e e₁ e₂ = record { known = v.0.known; stored = v.1; body_long = e₁; span_long = e₂ }
+  arrays_summed None v e e₁ e₂ = absurd (false≢true e)
+
+  pub window_lacking : (r : Option Sums) → WindowSummed k f bytes rows mark stamp m body span r → is_some r ≡ false → complete k (window_areas f bytes rows) f m ≡ false
+  unfolding WindowSummed
+  window_lacking (Some s) v e = absurd (false≢true (sym e))
+  window_lacking None v e = v
 
 -- ---- complete
 

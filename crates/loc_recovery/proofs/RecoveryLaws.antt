@@ -4,7 +4,9 @@ use Prim.Native.Nat.{ℕ, zero, suc}
 use mathlib.Core.Path.{◌≡◌, refl, ◌∙◌}
 use mathlib.Core.List.{List, []}
 use Rattle.loc_leaf.specs.declared.Kind.{Kind}
-use Rattle.loc_leaf.specs.declared.Answer.{Answer}
+use Rattle.loc_leaf.specs.declared.refusal.Refusal.{Refusal}
+use Rattle.loc_leaf.specs.Answers.{answer_of}
+use Rattle.std.specs.Prelude.{Result}
 use Rattle.loc_calls.specs.Areas.{Areas}
 use Rattle.loc_calls.specs.Table.{Batch, opening, append, read}
 use Rattle.loc_calls.specs.Stores.{run}
@@ -30,9 +32,9 @@ unmoved k ids out a = go (refusal k (read ids out) a)
     go zero = refl
     go (suc n) = refl
 
-module _ (k : Kind) (a a₁ a₂ a₃ a₄ : Areas) (b more : Batch) (s : ℕ) (ids out out' : List ℕ) (r₀ r₁ r₂ r₃ r₄ : Answer)
-    (p₀ : Stored (create a) r₀ a₁) (p₁ : Stored (call k 4 (append b) a₁) r₁ a₂) (p₂ : Stored (call k s (append more) a₂) r₂ a₃)
-    (p₃ : Stored (call k 6 opening a₃) r₃ a₄) (p₄ : Read (call k 0 (read ids out) a₄) r₄ out') where
+module _ (k : Kind) (a a₁ a₂ a₃ a₄ : Areas) (b more : Batch) (s : ℕ) (ids out out' : List ℕ) (r₀ r₁ r₂ r₃ r₄ : Result ℕ Refusal)
+    (p₀ : Stored (create a) (answer_of r₀) a₁) (p₁ : Stored (call k 4 (append b) a₁) (answer_of r₁) a₂) (p₂ : Stored (call k s (append more) a₂) (answer_of r₂) a₃)
+    (p₃ : Stored (call k 6 opening a₃) (answer_of r₃) a₄) (p₄ : Read (call k 0 (read ids out) a₄) (answer_of r₄) out') where
   abbrev es : List Event
   es = history b more s ids out
 

@@ -1,8 +1,9 @@
 -- What a run of one history on lent areas and lists promises: the replies of the index, and where it is lawful the book's.
 -- The reading's words are the answer buffer at return.
-use Rattle.std.specs.Prelude.{ℕ, ◌≡◌, false, List, [], ◌∷◌}
+use Rattle.std.specs.Prelude.{ℕ, ◌≡◌, false, List, [], ◌∷◌, Result}
 use Rattle.loc_leaf.specs.declared.Kind.{Kind}
-use Rattle.loc_leaf.specs.declared.Answer.{Answer}
+use Rattle.loc_leaf.specs.declared.refusal.Refusal.{Refusal}
+use Rattle.loc_leaf.specs.Answers.{answer_of}
 use Rattle.loc_calls.specs.Areas.{Areas, sizes}
 use Rattle.loc_calls.specs.Table.{Batch, opening, append, read}
 use Rattle.loc_calls.specs.Calls.{create}
@@ -15,8 +16,8 @@ abbrev pub history : Batch → Batch → ℕ → List ℕ → List ℕ → List 
 history b more s ids out = finished (append b) ∷ torn s (append more) ∷ finished opening ∷ finished (read ids out) ∷ []
 
 -- what the finished calls replied
-abbrev pub reply : Answer → List ℕ → Reply
-reply r out = record { answer = r; buffer = out }
+abbrev pub reply : Result ℕ Refusal → List ℕ → Reply
+reply r out = record { answer = answer_of r; buffer = out }
 
 abbrev pub replies : Replies → List ℕ → List Reply
 replies r out = reply r.appended [] ∷ reply r.opened [] ∷ reply r.read out ∷ []

@@ -3,12 +3,12 @@
 use mathlib.Core.Path.{◌≡◌, refl}
 use mathlib.Core.List.{[], ◌∷◌, ◌++◌}
 use lib.ListN.{replicate}
+use Rattle.std.specs.Prelude.{Some, None}
 use Rattle.loc_leaf.specs.declared.Kind.TheVariants.{Paired, Single}
 use Rattle.loc_leaf.specs.Bytes.{Bytes, number, bytes, number_at}
 use Rattle.loc_leaf.specs.Area.{pieces}
 use Rattle.loc_leaf.specs.Rows.{row, row_number}
 use Rattle.loc_rows.specs.Reader.{fields, row_at, rows_from}
-use Rattle.loc_rows.specs.declared.Row.TheVariants.{At, End}
 
 -- rows 2 and 9 behind the first 16 bytes, and a byte that is no row
 abbrev paired : Bytes
@@ -18,12 +18,12 @@ abbrev single : Bytes
 single = replicate 16 7 ++ (row Single 2 (record { strides = 65536; spans = 0 }) ++ (row Single 9 (record { strides = 70000; spans = 0 }) ++ (7 ∷ [])))
 
 pub record Computed : Type 0 where
-  first : row_at 16 paired 16 ≡ At 2 256 1
-  second : row_at 16 paired 32 ≡ At 9 300 5
-  behind : row_at 16 paired 48 ≡ End
-  first_single : row_at 12 single 16 ≡ At 2 65536 0
-  second_single : row_at 12 single 28 ≡ At 9 70000 0
-  behind_single : row_at 12 single 40 ≡ End
+  first : row_at 16 paired 16 ≡ Some (record { number = 2; strides = 256; spans = 1 })
+  second : row_at 16 paired 32 ≡ Some (record { number = 9; strides = 300; spans = 5 })
+  behind : row_at 16 paired 48 ≡ None
+  first_single : row_at 12 single 16 ≡ Some (record { number = 2; strides = 65536; spans = 0 })
+  second_single : row_at 12 single 28 ≡ Some (record { number = 9; strides = 70000; spans = 0 })
+  behind_single : row_at 12 single 40 ≡ None
   left : rows_from 16 paired 32 ≡ row Paired 9 (record { strides = 300; spans = 5 }) ∷ []
   none : rows_from 16 paired 48 ≡ []
 

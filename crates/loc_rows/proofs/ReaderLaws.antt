@@ -2,14 +2,14 @@
 -- A law for each way through a function: the results of its calls and its tests are premises.
 use Prim.Native.Nat.{ℕ, ◌+◌, ◌-◌, ◌*◌, ◌/◌, ◌≤◌, ◌<◌}
 use mathlib.Core.Path.{◌≡◌, refl, sym, ap, ◌∙◌}
-use mathlib.Core.Bool.{Bool, true, false, false≢true}
+use mathlib.Core.Bool.{Bool, true, false}
 use mathlib.Core.List.{[], ◌∷◌}
+use Rattle.std.specs.Prelude.{Some, None}
 use native.Mathlib.Nat.{div-eq_of_lt, div-eq-sub-div, div-mul-le_self, mul_comm}
 use native.Mathlib.Numerals.{add-one}
 use native.Mathlib.Omega.{arith}
 use native.Mathlib.Decide.{dec_le}
-use lib.Dec.{ltb}
-use borrow.Author.Tests.{le-leb, lt-leb}
+use borrow.Author.Tests.{le-leb, lt-leb, le-ltb, lt-ltb}
 use lib.ListN.{length, take, drop, drop_of_length-le, length-take}
 use lib.Seq.{take-take, drop-drop, length-take-le}
 use Rattle.loc_leaf.specs.declared.Kind.{Kind}
@@ -19,29 +19,28 @@ use Rattle.loc_leaf.specs.Area.{counted, pieces, fill, published}
 use Rattle.loc_leaf.specs.Kind.{row_width}
 use Rattle.loc_leaf.specs.Rows.{row_number, row_value, row_list, ascending}
 use Rattle.loc_leaf.proofs.AreaLaws.{take_drop, pieces_cong}
-use Rattle.loc_rows.specs.Reader.{fields, row_at, rows_from, is_end, is_above, number_of}
+use Rattle.loc_rows.specs.Reader.{fields, row_at, rows_from}
 use Rattle.loc_rows.specs.declared.Row.{Row}
-use Rattle.loc_rows.specs.declared.Row.TheVariants.{At, End}
 
 -- ---- what stands at a place
 
 module _ (w : ℕ) (xs : Bytes) (at : ℕ) where
-  pub row_none : length xs < at + w → row_at w xs at ≡ End
+  pub row_none : length xs < at + w → row_at w xs at ≡ None
   unfolding row_at
   row_none h = rw (lt-leb (at + w) (length xs) h) refl
 
-  pub row_whole : at + w ≤ length xs → row_at w xs at ≡ fields (take w (drop at xs))
+  pub row_whole : at + w ≤ length xs → row_at w xs at ≡ Some (fields (take w (drop at xs)))
   unfolding row_at
   row_whole h = rw (le-leb (at + w) (length xs) h) refl
 
-  pub row_short : length xs < w → End ≡ row_at w xs at
+  pub row_short : length xs < w → None ≡ row_at w xs at
   row_short h = sym (row_none (omega arith))
 
-  pub row_past : w ≤ length xs → length xs - w < at → End ≡ row_at w xs at
+  pub row_past : w ≤ length xs → length xs - w < at → None ≡ row_at w xs at
   row_past g h = sym (row_none (omega arith))
 
   pub row_there : w ≤ length xs → at ≤ length xs - w → (n s p end : ℕ) → end ≡ at + w → n ≡ number_at 8 0 (take (end - at) (drop at xs))
-      → s ≡ number_at 4 8 (take (end - at) (drop at xs)) → p ≡ number_at 4 12 (take (end - at) (drop at xs)) → At n s p ≡ row_at w xs at
+      → s ≡ number_at 4 8 (take (end - at) (drop at xs)) → p ≡ number_at 4 12 (take (end - at) (drop at xs)) → Some (record { number = n; strides = s; spans = p }) ≡ row_at w xs at
   unfolding fields row_number
   row_there g h n s p end e en es ep =
       let z : end - at ≡ w = omega arith in
@@ -89,64 +88,40 @@ rows_lent k xs w end ew ee h =
             ∙ sym (take_drop (w * ((end - 16) / w)) 16 xs)
         go (no g) = let z : w * ((end - 16) / w) ≡ 0 = omega (arith, few) in rw z refl
 
--- ---- what is asked of a row
-
-module _ (r : Row) where
-  pub end_is : r ≡ End → true ≡ is_end r
-  unfolding is_end
-  end_is e = rw e refl
-
-  pub above_not : (l : ℕ) → r ≡ End → false ≡ is_above l r
-  unfolding is_above
-  above_not l e = rw e refl
-
-  pub number_none : r ≡ End → 0 ≡ number_of r
-  unfolding number_of
-  number_none e = rw e refl
-
-  module _ {n s p : ℕ} (e : r ≡ At n s p) where
-    pub end_not : false ≡ is_end r
-    unfolding is_end
-    end_not = rw e refl
-
-    pub above_is : (l : ℕ) → ltb l n ≡ is_above l r
-    unfolding is_above
-    above_is l = rw e refl
-
-    pub number_is : n ≡ number_of r
-    unfolding number_of
-    number_is = rw e refl
-
 -- ---- the order of the rows
 
 -- from here on the rows ascend as the whole does
 module _ (w : ℕ) (xs : Bytes) (at last : ℕ) (wide : 12 ≤ w) (whole : Bool) (inv : whole ≡ ascending last (rows_from w xs at)) where
-  module _ (h : is_above last (row_at w xs at) ≡ true) where
-    pub above_inside : at + w ≤ length xs
-    unfolding is_above
-    above_inside = go (dec_le (at + w) (length xs))
+  pub no_row : None ≡ row_at w xs at → true ≡ whole
+  unfolding ascending
+  no_row e = go (dec_le (at + w) (length xs))
+    where
+      go : Dec (at + w ≤ length xs) → true ≡ whole
+      go (yes g) = let z = row_whole w xs at g in cc
+      go (no g) = sym (inv ∙ rw (rows_none w xs at wide (omega arith)) refl)
+
+  module _ (r : Row) (e : Some r ≡ row_at w xs at) where
+    pub row_inside : at + w ≤ length xs
+    row_inside = go (dec_le (at + w) (length xs))
       where
         go : Dec (at + w ≤ length xs) → at + w ≤ length xs
         go (yes g) = g
-        go (no g) = absurd (false≢true (ap (is_above last) (sym (row_none w xs at (omega arith))) ∙ h))
+        go (no g) = let z = row_none w xs at (omega arith) in cc
 
-    pub above_next : whole ≡ ascending (number_of (row_at w xs at)) (rows_from w xs (at + w))
-    unfolding is_above number_of fields ascending
-    above_next =
-        let e = row_whole w xs at above_inside in
-        let t : ltb last (row_number (take w (drop at xs))) ≡ true = ap (is_above last) (sym e) ∙ h in
-        inv ∙ rw (rows_more w xs at wide above_inside, t, e) refl
+    row_is : r ≡ fields (take w (drop at xs))
+    row_is = let z = row_whole w xs at row_inside in cc
 
-  pub above_none : is_above last (row_at w xs at) ≡ false → is_end (row_at w xs at) ≡ whole
-  unfolding is_above is_end fields ascending
-  above_none h = go (dec_le (at + w) (length xs))
-    where
-      go : Dec (at + w ≤ length xs) → is_end (row_at w xs at) ≡ whole
-      go (yes g) =
-          let e = row_whole w xs at g in
-          let t : ltb last (row_number (take w (drop at xs))) ≡ false = ap (is_above last) (sym e) ∙ h in
-          sym (inv ∙ rw (rows_more w xs at wide g, t, e) refl)
-      go (no g) = sym (inv ∙ rw (rows_none w xs at wide (omega arith), row_none w xs at (omega arith)) refl)
+    number_is : row_number (take w (drop at xs)) ≡ r.number
+    unfolding fields
+    number_is = rw row_is refl
+
+    pub row_low : r.number ≤ last → false ≡ whole
+    unfolding ascending
+    row_low h = sym (inv ∙ rw (rows_more w xs at wide row_inside, number_is, le-ltb last r.number h) refl)
+
+    pub row_above : last < r.number → whole ≡ ascending r.number (rows_from w xs (at + w))
+    unfolding ascending
+    row_above h = inv ∙ rw (rows_more w xs at wide row_inside, number_is, lt-ltb last r.number h) refl
 
 -- of the published part, the rows of the area
 pub rows_ascended : (k : Kind) (xs : Bytes) (w end : ℕ) (b : Bool) → w ≡ row_width k → end ≡ counted xs → end ≤ length xs → b ≡ ascending 0 (rows_from w (take end xs) 16) → b ≡ ascending 0 (row_list k xs)

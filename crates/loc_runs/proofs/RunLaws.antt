@@ -1,6 +1,6 @@
 -- Keys and the runs that they make.
 -- A run grows by one key of the same window.
-use Prim.Native.Nat.{ℕ, ◌+◌, ◌-◌, ◌/◌, ◌≤◌, ◌<◌, max, min}
+use Prim.Native.Nat.{ℕ, ◌+◌, ◌/◌, ◌≤◌, ◌<◌, max}
 use mathlib.Core.Path.{◌≡◌, refl, sym, ap, ◌∙◌, subst}
 use mathlib.Core.Logic.{⊎_elim}
 use mathlib.Core.Bool.{true}
@@ -25,14 +25,6 @@ use Rattle.loc_answer.specs.Words.{AllSome}
 use Rattle.loc_runs.specs.Runs.{IsRun, OneRun}
 
 -- ---- looked at
-
-pub looked_paired : (k : Kind) (n id x : ℕ) → k ≡ Paired → x ≡ within_window id → x + 1 ≡ looked_at k n id
-unfolding looked_at
-looked_paired k n id x e q = rw (e, q) (omega arith)
-
-pub looked_single : (k : Kind) (n id x : ℕ) → k ≡ Single → x ≡ min 1024 (n - before id) → x ≡ looked_at k n id
-unfolding looked_at
-looked_single k n id x e q = rw (e, q) refl
 
 -- its own record, and no more than a window
 pub looked_own : (k : Kind) (n id : ℕ) → 0 < id → id ≤ n → within_window id < looked_at k n id
@@ -201,14 +193,6 @@ module _ (k : Kind) (n : ℕ) (ids keys : List ℕ) (from stamp : ℕ) (mark mar
 
 -- ---- a list that is one run, taken in its own order
 
--- one number more that is a record's
-pub within_next : (n : ℕ) (ids : List ℕ) (p id : ℕ) → id ≡ get_or ids p 0 → within n id ≡ true → ((q : ℕ) → q < p → within n (get_or ids q 0) ≡ true) → (q : ℕ) → q < p + 1 → within n (get_or ids q 0) ≡ true
-within_next n ids p id e w f q h =
-    ⊎_elim
-    (λ (z : q ≡ p). ap (λ (i : ℕ). within n (get_or ids i 0)) z ∙ ap (within n) (sym e) ∙ w)
-    (λ (l : q < p). f q l)
-    (eq-or-lt_of_le (omega arith))
-
 module _ (ids : List ℕ) (few : length ids ≤ 1024) where
   pub own_number : (t : ℕ) → t < length ids → wanted_by ids (places_from 0 (length ids)) t ≡ get_or ids t 0
   own_number t h = ap (λ (p : ℕ). get_or ids p 0) (places_at (length ids) t few h)
@@ -225,6 +209,16 @@ own_some k n ids m mark few o p h =
 pub own_first : (k : Kind) (n : ℕ) (ids : List ℕ) (m : ℕ) (mark : List ℕ) → length ids ≤ 1024 → OneRun k n ids m mark → (w : ℕ) → w ≡ window_of (get_or ids 0 0) → w ≡ window_of (wanted_by ids (places_from 0 (length ids)) 0)
 own_first k n ids m mark few o w e = e ∙ ap window_of (sym (own_number ids few 0 o.run.more))
 
+-- the first p numbers lie in window w, and `most` is the largest of them, or the first number where p is 0
+pub record Sweep (k : Kind) (n : ℕ) (ids : List ℕ) (w most : ℕ) (mark : List ℕ) (p : ℕ) : Type 0 where
+  pub first : w ≡ window_of (get_or ids 0 0)
+  pub window : window_of most ≡ w
+  pub begins : p ≡ 0 → most ≡ get_or ids 0 0
+  pub some : 0 < p → 0 < most
+  pub counted : 0 < p → most ≤ n
+  pub inside : (q : ℕ) → q < p → within n (get_or ids q 0) ≡ true
+  pub run : 0 < p → IsRun k n ids (places_from 0 (length ids)) 0 p (looked_at k n most) 1 mark
+
 module _ (k : Kind) (n : ℕ) (ids : List ℕ) (few : length ids ≤ 1024) where
   abbrev own : List ℕ
   own = places_from 0 (length ids)
@@ -232,15 +226,46 @@ module _ (k : Kind) (n : ℕ) (ids : List ℕ) (few : length ids ≤ 1024) where
   own_inside : (t : ℕ) → t < length ids → t < length own
   own_inside t h = omega (arith, places_length 0 (length ids))
 
-  module _ (mark mark' : List ℕ) (long : length mark ≡ 128) where
-    pub one_first : (id : ℕ) → 0 < length ids → id ≡ get_or ids 0 0 → mark' ≡ set mark (within_window id / 8) 1 → IsRun k n ids own 0 1 (looked_at k n id) 1 mark'
-    one_first id h e es = run_first k n ids own 0 1 mark mark' long id (looked_at k n id) (own_inside 0 h) (e ∙ sym (own_number ids few 0 h)) (omega arith) es
+  module _ (w : ℕ) (mark mark' : List ℕ) (long : length mark ≡ 128) where
+    pub sweep_next : (id most most' p : ℕ) → Sweep k n ids w most mark p → p < length ids → id ≡ get_or ids p 0
+        → (within n id ≡ true) × (window_of id ≡ w) → most' ≡ max most id → mark' ≡ set mark (within_window id / 8) 1 → Sweep k n ids w most' mark' (p + 1)
+    sweep_next id most most' p s h e i el es =
+        record {
+          first = s.first;
+          window = larger_window most id most' w el s.window i.1;
+          begins = λ z. absurd (omega arith);
+          some = λ _. omega (arith, within_some n id i.0);
+          counted = λ _. most_counted (dec_le p 0);
+          inside = λ q g. ⊎_elim
+              (λ (z : q ≡ p). rw (z, ← e) i.0)
+              (λ (l : q < p). s.inside q l)
+              (eq-or-lt_of_le (omega arith));
+          run = λ _. go (dec_le p 0);
+        }
+      where
+        first : p ≤ 0 → most ≡ id
+        first z =
+            let zero : 0 ≡ p = omega arith in
+            s.begins (sym zero) ∙ ap (λ (q : ℕ). get_or ids q 0) zero ∙ sym e
 
-    pub one_next : (id w most most' p : ℕ) → IsRun k n ids own 0 p (looked_at k n most) 1 mark → p < length ids → id ≡ get_or ids p 0 → w ≡ window_of (get_or ids 0 0) → window_of most ≡ w → window_of id ≡ w
-        → most' ≡ max most id → mark' ≡ set mark (within_window id / 8) 1 → IsRun k n ids own 0 (p + 1) (looked_at k n most') 1 mark'
-    one_next id w most most' p r h e ew em eq el es =
-        run_next k n ids own 0 1 mark mark' long id w (looked_at k n most) (looked_at k n most') p r (own_inside p h) (e ∙ sym (own_number ids few p h)) (ew ∙ ap window_of (sym (own_number ids few 0 (omega arith)))) eq
-        (looked_larger k n most id most' (em ∙ sym eq) el) es
+        id_counted : id ≤ n
+        id_counted = within_counted n id i.0
+
+        most_counted : Dec (p ≤ 0) → most' ≤ n
+        most_counted (yes z) = omega (arith, first z, id_counted)
+        most_counted (no z) = omega (arith, s.counted (omega arith), id_counted)
+
+        here : id ≡ wanted_by ids own p
+        here = e ∙ sym (own_number ids few p h)
+
+        go : Dec (p ≤ 0) → IsRun k n ids own 0 (p + 1) (looked_at k n most') 1 mark'
+        go (yes z) =
+            let zero : p ≡ 0 = omega arith in
+            let same : most' ≡ id = omega (arith, first z) in
+            rw (zero, same) (run_first k n ids own 0 1 mark mark' long id (looked_at k n id) (own_inside 0 (omega arith)) (rw zero at here) (omega arith) es)
+        go (no z) =
+            run_next k n ids own 0 1 mark mark' long id w (looked_at k n most) (looked_at k n most') p (s.run (omega arith)) (own_inside p h) here (s.first ∙ ap window_of (sym (own_number ids few 0 (omega arith)))) i.1
+            (looked_larger k n most id most' (s.window ∙ sym i.1) el) es
 
   one_run : (m p : ℕ) (mark : List ℕ) → IsRun k n ids own 0 p m 1 mark → p ≤ length ids → length ids ≤ p → ((q : ℕ) → q < p → within n (get_or ids q 0) ≡ true) → OneRun k n ids m mark
   one_run m p mark r h g f =

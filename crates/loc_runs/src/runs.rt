@@ -1,6 +1,6 @@
 // The keys of one window: where they end, how many of the window's records they look at, and which blocks they mark.
 // A block is eight records; a stamp marks it for one run, so that marks need no clearing.
-ghost use Rattle.std.specs.Prelude.{◌≡◌, true, ◌-◌, ◌/◌, ◌<◌, ◌≤◌, min, max, length, get_or, set};
+ghost use Rattle.std.specs.Prelude.{◌≡◌, true, ◌-◌, ◌/◌, ◌<◌, ◌≤◌, min, max, length, get_or, set, IfSome};
 ghost use Rattle.loc_leaf.specs.Kind.{window_of, within_window};
 ghost use Rattle.loc_calls.specs.Reading.{before, looked_at, within};
 ghost use Rattle.loc_order.specs.Order.{All};
@@ -9,7 +9,7 @@ ghost use Rattle.loc_runs.specs.Runs.{IsRun, OneRun};
 
 use crate::Run;
 use loc_leaf::Kind;
-use loc_leaf::delta_loc::{LOC_WINDOW, larger, lesser, loc_window, loc_within};
+use loc_leaf::delta_loc::{LOC_WINDOW, loc_window, loc_within};
 use loc_order::keys::in_range;
 
 // The records of a number's window up to the count.
@@ -17,7 +17,7 @@ fn window_rest(count: u64, id: u64) -> usize
     requires { (0 < id) × (id ≤ count) }
     ensures { result ≡ min 1024 (count - before id) }
 {
-    lesser(count - LOC_WINDOW * loc_window(id), LOC_WINDOW) as usize
+    (count - LOC_WINDOW * loc_window(id)).min(LOC_WINDOW) as usize
 }
 
 // How many records of its window a reading of a number looks at.
@@ -45,7 +45,7 @@ fn mark_block(kind: Kind, count: u64, id: u64, m: usize, stamp: u64, mark: &mut 
     ensures { (result ≡ max m (looked_at kind count id)) × (mark.new ≡ set mark.old (within_window id / 8) stamp) }
 {
     mark[loc_within(id) / 8] = stamp;
-    larger(m as u64, looked_at(kind, count, id) as u64) as usize
+    m.max(looked_at(kind, count, id))
 }
 
 // The run of keys from a place on whose numbers lie in the window of the first.
@@ -65,56 +65,37 @@ pub fn run_at(
     let id = wanted_by(wanted, keys, from);
     let w = loc_window(id);
     let mut m = mark_block(kind, count, id, 0, stamp, mark);
-    let mut end = from + 1;
-    while end < keys.len() {
+    for end in from + 1..keys.len() {
         let next = wanted_by(wanted, keys, end);
         if loc_window(next) != w {
             return Run { end, m };
         }
         m = mark_block(kind, count, next, m, stamp, mark);
-        end += 1;
     }
-    Run { end, m }
+    Run { end: keys.len(), m }
 }
 
 // Whether a number is a record's, and lies in a window.
 fn in_window(id: u64, count: u64, w: u64) -> bool
     ensures { result ≡ true → (within count id ≡ true) × (window_of id ≡ w) }
 {
-    if in_range(id, count) {
-        if loc_window(id) == w {
-            return true;
-        }
-    }
-    false
+    in_range(id, count) && loc_window(id) == w
 }
 
 // How many records of its window a list looks at whose numbers all lie in one window, and their blocks marked with 1.
-// 0 where there is no number, one that is no record's, or one of another window.
-pub fn one_window(kind: Kind, count: u64, wanted: &[u64], mark: &mut [u64]) -> usize
+// None where there is no number, one that is no record's, or one of another window.
+pub fn one_window(kind: Kind, count: u64, wanted: &[u64], mark: &mut [u64]) -> Option<usize>
     requires { (length wanted.now ≤ 1024) × (length mark.old ≡ 128) }
-    ensures { (result ≡ 0 → ⊥) → OneRun kind count wanted.now result mark.new }
+    ensures { IfSome result (λ m. OneRun kind count wanted.now m mark.new) }
 {
-    if wanted.len() == 0 {
-        return 0;
-    }
-    let id = wanted[0];
-    if in_range(id, count) {
-        let w = loc_window(id);
-        mark[loc_within(id) / 8] = 1;
-        let mut most = id;
-        let mut p: usize = 1;
-        while p < wanted.len() {
-            let next = wanted[p];
-            if in_window(next, count, w) {
-                mark[loc_within(next) / 8] = 1;
-                most = larger(most, next);
-                p += 1;
-            } else {
-                return 0;
-            }
+    let mut most = *wanted.first()?;
+    let w = loc_window(most);
+    for &id in wanted {
+        if !in_window(id, count, w) {
+            return None;
         }
-        return looked_at(kind, count, most);
+        mark[loc_within(id) / 8] = 1;
+        most = most.max(id);
     }
-    0
+    Some(looked_at(kind, count, most))
 }

@@ -1,10 +1,10 @@
 -- Halves of a part, and the record of a part by its running sums.
--- Sums and rows do not look at the checkpoints, so that each law holds whatever these are.
+-- Each law takes what the sums of the part's first records, or of each number of them, say.
 use Prim.Native.Nat.{ℕ, zero, suc, ◌+◌, ◌-◌, ◌*◌, ◌/◌, ◌^◌, ◌≤◌, ◌<◌}
 use mathlib.Core.Path.{◌≡◌, refl, sym, ap, ◌∙◌, subst}
 use mathlib.Core.Logic.{⊎_elim}
-use mathlib.Core.Bool.{true, ◌&&◌, true≢false}
-use mathlib.Core.List.{List, []}
+use mathlib.Core.Bool.{true, false, ◌&&◌, true≢false}
+use mathlib.Core.List.{List}
 use native.Mathlib.Nat.{eq-or-lt_of_le}
 use native.Mathlib.Numerals.{add-one}
 use native.Mathlib.Omega.{arith}
@@ -13,10 +13,9 @@ use Rattle.loc_leaf.specs.declared.Kind.TheVariants.{Paired}
 use Rattle.loc_leaf.specs.Bytes.{Bytes}
 use Rattle.loc_leaf.proofs.Booleans.{both_left, both_right}
 use Rattle.loc_calls.specs.Areas.{Areas, areas}
-use Rattle.loc_calls.specs.Reading.{value_at, complete, spans_after}
+use Rattle.loc_calls.specs.Reading.{lookup_at, value_at, complete, spans_after}
 use Rattle.loc_window.specs.declared.Sums.{Sums}
-use Rattle.loc_window.specs.declared.Step.{Step}
-use Rattle.loc_window.specs.declared.Step.TheVariants.{Next, Lack}
+use Rattle.std.specs.Prelude.{Option, Some, None}
 use Rattle.loc_whole.specs.Totals.{Walkable, Totals, Totalled, Running}
 use Rattle.loc_whole.proofs.TotalLaws.{walkable_first, walkable_rest, spans_none, spans_next, known_parts, spans_parts, totalled_next, totalled_lack, totalled_running}
 use Rattle.loc_span_at.specs.declared.Part.{Part}
@@ -71,33 +70,31 @@ module _ (a : Areas) (nr t : ℕ) (p : Part) (g : Holding a nr t p) (n : ℕ) (h
       less = omega arith;
     }
 
-module _ (slots rows : Bytes) (nr t : ℕ) (p : Part) (g : (c : Bytes) → Holding (areas slots rows c) nr t p) (more : 8 < p.m) where
+module _ (a : Areas) (nr t : ℕ) (p : Part) (g : Holding a nr t p) (more : 8 < p.m) where
   abbrev n : ℕ
   n = 8 * ((p.m + 7) / 16)
 
-  pub half_asks : Walkable slots rows nr p.base n p.row
-  half_asks = walkable_first slots rows nr p.base p.m p.row (g []).ready n (omega arith) (omega arith)
+  pub half_asks : Walkable a.slots a.rows nr p.base n p.row
+  half_asks = walkable_first a.slots a.rows nr p.base p.m p.row g.ready n (omega arith) (omega arith)
 
-  module _ (span : List ℕ) (r : Step) (v : (c : Bytes) → Totalled (areas slots rows c) p.base n 1 span r) where
-    module _ (s : Sums) (e : r ≡ Next s) where
-      total : (c : Bytes) → Totals (areas slots rows c) p.base n s
-      total c = totalled_next (areas slots rows c) p.base n 1 span r (v c) s e
+  module _ (span : List ℕ) (r : Option Sums) (v : Totalled a p.base n false span r) where
+    module _ (s : Sums) (e : r ≡ Some s) where
+      total : Totals a p.base n s
+      total = totalled_next a p.base n false span r v s e
 
       -- no sum wraps
       pub half_low : p.before + s.spans < 2 ^ 64
-      half_low = omega (arith, (g []).low, (g []).fits, (g []).ready.few, (total []).spans_low)
+      half_low = omega (arith, g.low, g.fits, g.ready.few, total.spans_low)
 
-      pub half_first : t < p.before + s.spans → (c : Bytes) → Halved (areas slots rows c) nr t p (part_of p.base n p.row p.before)
-      half_first l c = first_half (areas slots rows c) nr t p (g c) n (omega arith) (omega arith) s (total c) l
+      pub half_first : t < p.before + s.spans → Halved a nr t p (part_of p.base n p.row p.before)
+      half_first l = first_half a nr t p g n (omega arith) (omega arith) s total l
 
-      pub half_rest : p.before + s.spans ≤ t → (c : Bytes) → Halved (areas slots rows c) nr t p (part_of (p.base + n) (p.m - n) s.row (p.before + s.spans))
-      half_rest l c = rest_half (areas slots rows c) nr t p (g c) n (omega arith) (omega arith) s (total c) l
+      pub half_rest : p.before + s.spans ≤ t → Halved a nr t p (part_of (p.base + n) (p.m - n) s.row (p.before + s.spans))
+      half_rest l = rest_half a nr t p g n (omega arith) (omega arith) s total l
 
     -- no row is lacking
-    pub half_whole : r ≡ Lack → ⊥
-    half_whole e =
-        true≢false
-        (sym (first_known (areas slots rows []) nr t p (g []) n (omega arith)) ∙ totalled_lack (areas slots rows []) p.base n 1 span r (v []) e)
+    pub half_whole : r ≡ None → ⊥
+    half_whole e = true≢false (sym (first_known a nr t p g n (omega arith)) ∙ totalled_lack a p.base n false span r v e)
 
 -- ---- parts of parts
 
@@ -123,6 +120,12 @@ crossed_inside a p q t r v w =
       is_span = omega (arith, w.is_span, v.is_before, spans_parts a p.base v.place w.place, ap (λ (f : ℕ). spans_after Paired a f w.place) v.is_first);
       own = subst (λ (id : ℕ). r.index < (value_at Paired a id).spans) e w.own;
     }
+
+-- the checkpoints do not count
+pub crossed_any : (s r c d : Bytes) (f m before t : ℕ) (x : Span) → Crossed (areas s r c) f m before t x → Crossed (areas s r d) f m before t x
+unfolding spans_after value_at lookup_at
+crossed_any s r c d f m before t x v =
+    record { place = v.place; inside = v.inside; is_record = v.is_record; is_span = v.is_span; own = v.own }
 
 -- ---- the record of a part
 
@@ -157,17 +160,16 @@ module _ (a : Areas) (nr t : ℕ) (p : Part) (g : Holding a nr t p) (span : List
     own = omega (arith, low, run k v.inside, v.above above, run (k + 1) (omega (arith, above)), ap (spans_after Paired a p.base) (add-one k), spans_next a p.base k);
   }
 
-module _ (slots rows : Bytes) (nr t : ℕ) (p : Part) (g : (c : Bytes) → Holding (areas slots rows c) nr t p) (span : List ℕ) (r : Step)
-    (w : (c : Bytes) → Totalled (areas slots rows c) p.base p.m 0 span r) (k : ℕ) (v : FirstAbove span p.m (t - p.before) k) where
-  sums : (c : Bytes) → Running (areas slots rows c) p.base p.m span
-  sums c = totalled_running (areas slots rows c) p.base p.m span r (g c).known (w c)
+module _ (a : Areas) (nr t : ℕ) (p : Part) (g : Holding a nr t p) (span : List ℕ) (r : Option Sums)
+    (w : Totalled a p.base p.m true span r) (k : ℕ) (v : FirstAbove span p.m (t - p.before) k) where
+  sums : Running a p.base p.m span
+  sums = totalled_running a p.base p.m span r g.known w
 
   pub record_inside : k < p.m
-  record_inside = above (areas slots rows []) nr t p (g []) span (sums []) k v
+  record_inside = above a nr t p g span sums k v
 
   pub record_low : get_or span k 0 ≤ t - p.before
-  record_low = index_low (areas slots rows []) nr t p (g []) span (sums []) k v
+  record_low = index_low a nr t p g span sums k v
 
-  pub record_crossed : (c : Bytes)
-      → Crossed (areas slots rows c) p.base p.m p.before t (record { «record» = p.base + k + 1; index = t - p.before - get_or span k 0 })
-  record_crossed c = there (areas slots rows c) nr t p (g c) span (sums c) k v
+  pub record_crossed : Crossed a p.base p.m p.before t (record { «record» = p.base + k + 1; index = t - p.before - get_or span k 0 })
+  record_crossed = there a nr t p g span sums k v

@@ -9,38 +9,24 @@ use native.Mathlib.Nat.{eq-or-lt_of_le}
 use native.Mathlib.Decide.{dec_le}
 use native.Mathlib.Omega.{arith}
 use lib.Dec.{leb, ltb}
-use borrow.Author.Tests.{leb-true, ltb-true, le-leb, lt-leb, lt-ltb, le-ltb}
+use borrow.Author.Tests.{leb-true, ltb-true, le-leb, lt-ltb}
 use Rattle.loc_leaf.specs.declared.Kind.TheVariants.{Paired}
 use Rattle.loc_leaf.proofs.Booleans.{both_left, both_right, not_true_is_false}
-use Rattle.loc_calls.specs.declared.SpanAt.{SpanAt}
-use Rattle.loc_leaf.specs.Bytes.{Bytes}
-use Rattle.loc_calls.specs.Areas.{Areas, areas, count}
+use Rattle.loc_calls.specs.Areas.{Areas, count}
 use Rattle.loc_calls.specs.Table.{saturated}
-use Rattle.loc_calls.specs.Reading.{first_after, lookup_at, value_at, complete, spans_after, window_end, within, words, words_for}
-use Rattle.loc_calls.specs.SpanAt.{span_start, span_length, holds, refused_by, crossing}
+use Rattle.loc_calls.specs.Reading.{first_after, value_at, spans_after, window_end, within, words, words_for}
+use Rattle.loc_calls.specs.SpanAt.{Crossing, span_start, span_length, holds, refused_by, crossing}
 use Rattle.loc_calls.proofs.Lowest.{lowest_none, lowest_is, lowest}
 use Rattle.loc_calls.proofs.Located.{held_range, range_held}
 use Rattle.loc_whole.proofs.TotalLaws.{spans_none, spans_next, spans_parts}
+use Rattle.loc_span_at.specs.declared.Part.{Part}
 use Rattle.loc_span_at.specs.declared.Span.{Span}
-use Rattle.loc_span_at.specs.Find.{part_of, Holding, Crossed}
+use Rattle.loc_span_at.specs.Find.{Holding, Crossed}
 use Rattle.loc_span_at.specs.Windows.{crossing_after, Quarter}
 
 -- ---- whether spans hold an address
 
 module _ (start before spans x : ℕ) where
-  pub hold_not : x < start → false ≡ (leb (start + 8 * before) x && ltb x (start + 8 * (before + spans)))
-  hold_not l = rw (lt-leb (start + 8 * before) x (omega arith)) refl
-
-  pub hold_sooner : start ≤ x → (x - start) / 8 < before → false ≡ (leb (start + 8 * before) x && ltb x (start + 8 * (before + spans)))
-  hold_sooner l h = rw (lt-leb (start + 8 * before) x (omega arith)) refl
-
-  pub hold_by : start ≤ x → before ≤ (x - start) / 8 → ltb ((x - start) / 8 - before) spans ≡ (leb (start + 8 * before) x && ltb x (start + 8 * (before + spans)))
-  hold_by l h = rw (le-leb (start + 8 * before) x (omega arith)) (go ((x - start) / 8 - before) refl (dec_le (suc ((x - start) / 8 - before)) spans))
-    where
-      go : (t : ℕ) → t ≡ (x - start) / 8 - before → Dec (t < spans) → ltb t spans ≡ ltb x (start + 8 * (before + spans))
-      go t e (yes g) = rw (lt-ltb t spans g, lt-ltb x (start + 8 * (before + spans)) (omega arith)) refl
-      go t e (no g) = rw (le-ltb t spans (omega arith), le-ltb x (start + 8 * (before + spans)) (omega arith)) refl
-
   hold_yes : (leb (start + 8 * before) x && ltb x (start + 8 * (before + spans))) ≡ true → (start + 8 * before ≤ x) × (x < start + 8 * (before + spans))
   hold_yes e = (
     leb-true (start + 8 * before) x (both_left (leb (start + 8 * before) x) (ltb x (start + 8 * (before + spans))) e),
@@ -183,7 +169,7 @@ module _ (a : Areas) (nr x q m row before total W : ℕ) (g : Quarter a nr q m r
         (omega (arith, low, sum_rises a x w W eW fitsW fits (p + k) (suc (p + j)) (omega arith))))
         (ap (holds words_of x) (place k) ∙ among a x w W eW fitsW fits (p + k) (omega (arith, g.few, v.inside)) counted_there (omega (arith, low)) (omega (arith, high)))
 
-    given : ℕ → ℕ → ℕ → SpanAt
+    given : ℕ → ℕ → ℕ → Crossing
     given id i d = record { number = 0; «record» = id; index = i; remainder = d }
 
     abbrev start : ℕ
@@ -203,24 +189,14 @@ module _ (a : Areas) (nr x q m row before total W : ℕ) (g : Quarter a nr q m r
 
 -- ---- the span is looked for in the quarter
 
--- sums and rows do not look at the checkpoints
-module _ (s r c d : Bytes) (f m : ℕ) where
-  any_known : complete Paired (areas s r c) f m ≡ complete Paired (areas s r d) f m
-  unfolding lookup_at
-  any_known = refl
-
-  any_spans : spans_after Paired (areas s r c) f m ≡ spans_after Paired (areas s r d) f m
-  unfolding spans_after value_at lookup_at
-  any_spans = refl
-
-pub quarter_holding : (s r c : Bytes) (nr q m row before total W x : ℕ) → Quarter (areas s r c) nr q m row before total → x < 2 ^ 64
-    → (leb (W + 8 * before) x && ltb x (W + 8 * (before + total))) ≡ true → (d : Bytes) → Holding (areas s r d) nr ((x - W) / 8) (part_of (256 * q) m row before)
-quarter_holding s r c nr q m row before total W x v h e d =
-    let p = hold_yes W before total x e in
+pub quarter_holding : (a : Areas) (nr q : ℕ) (p : Part) (total W x : ℕ) → Quarter a nr q p.m p.row p.before total → 256 * q ≡ p.base → x < 2 ^ 64
+    → (leb (W + 8 * p.before) x && ltb x (W + 8 * (p.before + total))) ≡ true → Holding a nr ((x - W) / 8) p
+quarter_holding a nr q p total W x v eq h e =
+    let s = hold_yes W p.before total x e in
     record {
-      ready = v.ready;
-      known = sym (any_known s r c d (256 * q) m) ∙ v.known;
+      ready = rw (← eq) v.ready;
+      known = rw (← eq) v.known;
       fits = omega arith;
-      low = omega (arith, p.0);
-      high = omega (arith, p.0, p.1, v.is_total, any_spans s r c d (256 * q) m);
+      low = omega (arith, s.0);
+      high = rw (← eq) (omega (arith, s.0, s.1, v.is_total));
     }

@@ -3,10 +3,9 @@
 use Rattle.std.specs.Prelude.{ℕ, ◌+◌, ◌*◌, ◌/◌, ◌%◌, ◌^◌, ◌≤◌, ◌<◌, min, ◌≡◌, true}
 use Rattle.loc_leaf.specs.declared.Kind.TheVariants.{Paired}
 use Rattle.loc_leaf.specs.Rows.{row_list}
-use Rattle.loc_calls.specs.declared.SpanAt.{SpanAt}
 use Rattle.loc_calls.specs.Areas.{Areas, count}
 use Rattle.loc_calls.specs.Reading.{first_after, complete, spans_after, words_for}
-use Rattle.loc_calls.specs.SpanAt.{holds, crossing}
+use Rattle.loc_calls.specs.SpanAt.{Crossing, holds, crossing}
 use Rattle.loc_window.specs.Window.{Passed}
 use Rattle.loc_whole.specs.Totals.{Walkable}
 
@@ -14,7 +13,7 @@ use Rattle.loc_whole.specs.Totals.{Walkable}
 abbrev pub lowest_after : Areas → ℕ → ℕ → ℕ → ℕ
 lowest_after a x m n = first_after (holds (words_for Paired a) x) m n
 
-abbrev pub crossing_after : Areas → ℕ → ℕ → ℕ → SpanAt
+abbrev pub crossing_after : Areas → ℕ → ℕ → ℕ → Crossing
 crossing_after a x m n = crossing (words_for Paired a) x (lowest_after a x m n)
 
 -- quarter q has m records, none of which lacks its row, and so many spans, after those that its window has before it
@@ -27,7 +26,7 @@ pub record Quarter (a : Areas) (nr q m row before total : ℕ) : Type 0 where
   pub counted : 256 * q + m ≤ count a
 
 -- the quarters before q are passed: no record of theirs lacks its row, and this is the crossing in them
-pub record Finding (a : Areas) (x n q row before : ℕ) (found : SpanAt) : Type 0 where
+pub record Finding (a : Areas) (x n q row before : ℕ) (found : Crossing) : Type 0 where
   pub inside : 256 * q < n + 256
   pub known : complete Paired a 0 (min (256 * q) n) ≡ true
   pub passed : Passed (row_list Paired a.rows) row (min (256 * q) n)

@@ -3,41 +3,25 @@
 ghost use Rattle.std.specs.Prelude.{◌<◌, length};
 ghost use Rattle.loc_leaf.specs.Bytes.{Bytes};
 ghost use Rattle.loc_calls.specs.Areas.{areas};
-ghost use Rattle.loc_whole.specs.Totals.{Lent};
+ghost use Rattle.loc_calls.specs.Lent.{seen};
 ghost use Rattle.loc_span_at.specs.Find.{Holding, Halved, FirstAbove, Crossed};
 
 use crate::{Part, Span};
+use loc_calls::Areas;
+use loc_whole::RunningSums;
 use loc_whole::totals::totals;
-use loc_window::Step;
 
 // The half of the part's blocks that has the span. No row is lacking there, so that an answer without sums does not come.
-fn half(
-    slots: &[u8],
-    rows: &[u8],
-    row_count: usize,
-    t: u64,
-    p: Part,
-    mark: &[u64],
-    body: &mut [u64],
-    span: &mut [u64],
-) -> Part
-    requires { ((c : Bytes) → Holding (areas slots.now rows.now c) row_count t p) × (8 < p.m) × Lent mark.now body.old span.old }
-    ensures { (c : Bytes) → Halved (areas slots.now rows.now c) row_count t p result }
+fn half(a: Areas<'_>, row_count: usize, t: u64, p: Part, sums: &mut RunningSums) -> Part
+    requires { Holding (seen a) row_count t p × (8 < p.m) }
+    ensures { Halved (seen a.entry) row_count t p result }
 {
     let m = 8 * ((p.m + 7) / 16);
-    let step = totals(
-        slots, rows, row_count, p.base, m, p.row, mark, 1, body, span,
-    );
-    match step {
-        Step::Next(s) => {
+    match totals(a, row_count, p.base, m, p.row, false, sums) {
+        Some(s) => {
             let before = p.before + s.spans;
             if t < before {
-                return Part {
-                    base: p.base,
-                    m,
-                    row: p.row,
-                    before: p.before,
-                };
+                return Part { m, ..p };
             }
             Part {
                 base: p.base + m as u64,
@@ -46,7 +30,7 @@ fn half(
                 before,
             }
         }
-        Step::Lack => p,
+        None => p,
     }
 }
 
@@ -55,59 +39,37 @@ fn first_above(sums: &[u64], m: usize, t: u64) -> usize
     requires { m < length sums.now }
     ensures { FirstAbove sums.now m t result }
 {
-    let mut k: usize = 0;
-    while k < m {
+    for k in 0..m {
         if t < sums[k + 1] {
             return k;
         }
-        k += 1;
     }
-    k
+    m
 }
 
 // The record of a part of at most a block.
-fn record_in(
-    slots: &[u8],
-    rows: &[u8],
-    row_count: usize,
-    t: u64,
-    p: Part,
-    mark: &[u64],
-    body: &mut [u64],
-    span: &mut [u64],
-) -> Span
-    requires { ((c : Bytes) → Holding (areas slots.now rows.now c) row_count t p) × Lent mark.now body.old span.old }
-    ensures { (c : Bytes) → Crossed (areas slots.now rows.now c) p.base p.m p.before t result }
+fn record_in(a: Areas<'_>, row_count: usize, t: u64, p: Part, sums: &mut RunningSums) -> Span
+    requires { Holding (seen a) row_count t p }
+    ensures { Crossed (seen a.entry) p.base p.m p.before t result }
 {
-    totals(
-        slots, rows, row_count, p.base, p.m, p.row, mark, 0, body, span,
-    );
+    totals(a, row_count, p.base, p.m, p.row, true, sums);
     let left = t - p.before;
-    let k = first_above(span, p.m, left);
-    let passed = span[k];
+    let k = first_above(&sums.span, p.m, left);
     Span {
         record: p.base + k as u64 + 1,
-        index: left - passed,
+        index: left - sums.span[k],
     }
 }
 
 // The record of a part of up to a quarter of a window.
-pub fn find(
-    slots: &[u8],
-    rows: &[u8],
-    row_count: usize,
-    t: u64,
-    part: Part,
-    mark: &[u64],
-    body: &mut [u64],
-    span: &mut [u64],
-) -> Span
-    requires { ((c : Bytes) → Holding (areas slots.now rows.now c) row_count t part) × Lent mark.now body.old span.old }
-    ensures { (c : Bytes) → Crossed (areas slots.now rows.now c) part.base part.m part.before t result }
+pub fn find(a: Areas<'_>, row_count: usize, t: u64, part: Part, sums: &mut RunningSums) -> Span
+    requires { Holding (seen a) row_count t part }
+    ensures { (c : Bytes) → Crossed (areas a.entry.slots.now a.entry.rows.now c) part.base part.m part.before t result }
 {
     let mut p = part;
+    // no count: each turn halves the part
     while 8 < p.m {
-        p = half(slots, rows, row_count, t, p, mark, body, span);
+        p = half(a, row_count, t, p, sums);
     }
-    record_in(slots, rows, row_count, t, p, mark, body, span)
+    record_in(a, row_count, t, p, sums)
 }

@@ -1,4 +1,3 @@
-pub mod CheckLaws
 pub mod PlanLaws
 pub mod StoreLaws
 pub mod RuleLaws

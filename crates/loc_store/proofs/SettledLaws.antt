@@ -8,18 +8,21 @@ use mathlib.Core.List.{List, [], ◌∷◌, ◌++◌}
 use native.Mathlib.Nat.{div-add-mod}
 use native.Mathlib.Omega.{arith}
 use native.Mathlib.Decide.{dec_le}
-use lib.Dec.{ltb, eqb}
+use lib.Dec.{leb, ltb, eqb}
 use lib.ListN.{length}
-use borrow.Author.Tests.{lt-ltb, le-ltb, ltb-false, eq-eqb, ne_eqb, eqb-true, eqb-false, not-false}
+use borrow.Author.Tests.{lt-leb, lt-ltb, le-ltb, ltb-false, eq-eqb, ne_eqb, eqb-true, eqb-false, not-false}
 use Rattle.loc_leaf.specs.declared.Kind.{Kind}
 use Rattle.loc_leaf.specs.declared.Kind.TheVariants.{Paired, Single}
 use Rattle.loc_leaf.specs.Bytes.{Bytes}
-use Rattle.loc_leaf.specs.Answers.{refuse, ◌or_else◌}
+use Rattle.std.specs.Prelude.{Result, Ok, Err}
+use Rattle.std.specs.Result.{is_err}
+use Rattle.loc_leaf.specs.declared.refusal.Refusal.{Refusal}
+use Rattle.loc_leaf.specs.Answers.{refuse, ◌or_else◌, number_of, refusal_of}
 use Rattle.loc_leaf.specs.Area.{counted, fill}
 use Rattle.loc_leaf.specs.Kind.{row_width, checkpoint_width}
 use Rattle.loc_leaf.specs.Slot.{checkpoint_rule}
 use Rattle.loc_leaf.specs.Rows.{row_list, ascending, last_number, rows_up_to}
-use Rattle.loc_leaf.proofs.Refusals.{or_else_left, or_else_right, refuse_zero}
+use Rattle.loc_leaf.proofs.Refusals.{or_else_left, or_else_right, refuse_zero, number_some}
 use Rattle.loc_leaf.proofs.Booleans.{is?, both_left, neither_left, neither_right}
 use Rattle.loc_leaf.proofs.AreaLaws.{counted_ge}
 use Rattle.loc_leaf.proofs.RowLaws.{rows_count}
@@ -168,21 +171,19 @@ module _ (k : Kind) (s r c : Bytes) (z : open_refusal k (areas s r c) ≡ 0) whe
   opened_ascends = not-false (ascending 0 (row_list k r)) (refuse_zero (not (ascending 0 (row_list k r))) 4 (or_else_right (refuse (ragged (row_width k) r) 4) (refuse (not (ascending 0 (row_list k r))) 5) after_3))
 
 -- of number 1 and 6
-module _ (k : Kind) (s r c : Bytes) (n : ℕ) (e : n ≡ first_refusal k (areas s r c)) (h : n ≡ 0) where
-  pub accepted_sized : HoldHeaders (areas s r c)
-  accepted_sized = not_small s r c (too_small (areas s r c)) refl (refuse_zero (too_small (areas s r c)) 0 (or_else_left _ (refuse (not (settled k (areas s r c))) 6) (sym e ∙ h)))
+module _ (k : Kind) (a : Areas) (e : 0 ≡ first_refusal k a) where
+  pub accepted_sized : HoldHeaders a
+  accepted_sized = not_small a.slots a.rows a.checkpoints (too_small a) refl (refuse_zero (too_small a) 0 (or_else_left _ (refuse (not (settled k a)) 6) (sym e)))
 
-  accepted_settled : settled k (areas s r c) ≡ true
-  accepted_settled = not-false (settled k (areas s r c)) (refuse_zero (not (settled k (areas s r c))) 5 (or_else_right (refuse (too_small (areas s r c)) 1) _ (sym e ∙ h)))
+  accepted_settled : settled k a ≡ true
+  accepted_settled = not-false (settled k a) (refuse_zero (not (settled k a)) 5 (or_else_right (refuse (too_small a) 1) _ (sym e)))
 
-  accepted_opens : open_refusal k (areas s r c) ≡ 0
+  accepted_opens : open_refusal k a ≡ 0
   unfolding settled
-  accepted_opens =
-      eqb-true (open_refusal k (areas s r c)) 0
-      (both_left (eqb (open_refusal k (areas s r c)) 0) (not (any_stores (open_places k (areas s r c)))) accepted_settled)
+  accepted_opens = eqb-true (open_refusal k a) 0 (both_left (eqb (open_refusal k a) 0) (not (any_stores (open_places k a))) accepted_settled)
 
-  pub accepted_ascends : ascending 0 (row_list k r) ≡ true
-  accepted_ascends = opened_ascends k s r c accepted_opens
+  pub accepted_ascends : ascending 0 (row_list k a.rows) ≡ true
+  accepted_ascends = opened_ascends k a.slots a.rows a.checkpoints accepted_opens
 
 -- ---- what opening accepts, and when it would store nothing of it
 
@@ -279,65 +280,56 @@ module _ (k : Kind) (s r c : Bytes) (g : HoldHeaders (areas s r c)) (z : open_re
           go (inl t) = rw (t, eqb-true m n t, none_differs) refl
           go (inr t) = rw (t, slots_differ m (eqb-false m n t)) refl
 
--- a settled index has a whole number of rows
-pub accepted_rows : (k : Kind) (s r c : Bytes) (n : ℕ) → n ≡ first_refusal k (areas s r c) → n ≡ 0 → counted r ≡ 16 + row_width k * fill (row_width k) r
-accepted_rows k s r c n e h = whole_rows k s r c (accepted_sized k s r c n e h) (accepted_opens k s r c n e h)
+module _ (k : Kind) (a : Areas) (e : 0 ≡ first_refusal k a) where
+  -- a settled index has a whole number of rows
+  pub accepted_rows : counted a.rows ≡ 16 + row_width k * fill (row_width k) a.rows
+  accepted_rows = whole_rows k a.slots a.rows a.checkpoints (accepted_sized k a e) (accepted_opens k a e)
 
--- and a checkpoint for each whole window
-pub accepted_checkpointed : (k : Kind) (s r c : Bytes) (n : ℕ) → n ≡ first_refusal k (areas s r c) → n ≡ 0 → fill (checkpoint_width k) c ≡ fill 2 s / 1024
-accepted_checkpointed k s r c n e h = go (is? (eqb (fill (checkpoint_width k) c) (fill 2 s / 1024)))
-  where
-    go : (eqb (fill (checkpoint_width k) c) (fill 2 s / 1024) ≡ true) ⊎ (eqb (fill (checkpoint_width k) c) (fill 2 s / 1024) ≡ false)
-        → fill (checkpoint_width k) c ≡ fill 2 s / 1024
-    go (inl t) = eqb-true (fill (checkpoint_width k) c) (fill 2 s / 1024) t
-    go (inr t) =
-        absurd (false≢true (sym (windows_differ k s r c (accepted_sized k s r c n e h) (accepted_opens k s r c n e h) (eqb-false (fill (checkpoint_width k) c) (fill 2 s / 1024) t)) ∙ accepted_settled k s r c n e h))
+  -- and a checkpoint for each whole window
+  pub accepted_checkpointed : fill (checkpoint_width k) a.checkpoints ≡ fill 2 a.slots / 1024
+  accepted_checkpointed = go (is? (eqb (fill (checkpoint_width k) a.checkpoints) (fill 2 a.slots / 1024)))
+    where
+      go : (eqb (fill (checkpoint_width k) a.checkpoints) (fill 2 a.slots / 1024) ≡ true) ⊎ (eqb (fill (checkpoint_width k) a.checkpoints) (fill 2 a.slots / 1024) ≡ false)
+          → fill (checkpoint_width k) a.checkpoints ≡ fill 2 a.slots / 1024
+      go (inl t) = eqb-true (fill (checkpoint_width k) a.checkpoints) (fill 2 a.slots / 1024) t
+      go (inr t) =
+          absurd (false≢true (sym (windows_differ k a.slots a.rows a.checkpoints (accepted_sized k a e) (accepted_opens k a e)
+          (eqb-false (fill (checkpoint_width k) a.checkpoints) (fill 2 a.slots / 1024) t)) ∙ accepted_settled k a e))
 
--- ---- 1, then 6
+-- ---- whether it is settled, in the form in which the code meets it
 
-module _ (k : Kind) (s r c : Bytes) (p : Published) (q : Publishes k (areas s r c) p) (b : Bool) (e : b ≡ too_small (areas s r c)) where
-  pub call_1 : b ≡ true → 1 ≡ first_refusal k (areas s r c)
-  call_1 h = rw (← e, h) refl
+module _ (k : Kind) (s r c : Bytes) (p : Published) (g : HoldHeaders (areas s r c)) (q : Publishes k (areas s r c) p)
+    {A : Type 0} (o : Result A Refusal) (eo : Publishes k (areas s r c) p → refusal_of o ≡ open_refusal k (areas s r c)) (b : Bool) (eb : b ≡ is_err o) where
+  pub unopened : b ≡ true → false ≡ settled k (areas s r c)
+  unfolding settled
+  unopened h = by o (sym eb ∙ h) (eo q)
+    where
+      by : (x : Result A Refusal) → is_err x ≡ true → refusal_of x ≡ open_refusal k (areas s r c) → false ≡ settled k (areas s r c)
+      by (Ok v) t e = absurd (false≢true t)
+      by (Err n) t e = rw (← e, ne_eqb (number_of n) 0 (number_some n)) refl
 
-  module _ (h : b ≡ false) where
-    by_settled : (d : Bool) → settled k (areas s r c) ≡ d → refuse (not d) 6 ≡ first_refusal k (areas s r c)
-    by_settled d f = rw (← e, h, f) refl
+  module _ (h : b ≡ false) (l : length r < 2 ^ 64) where
+    opens : open_refusal k (areas s r c) ≡ 0
+    opens = by o (sym eb ∙ h) (eo q)
+      where
+        by : (x : Result A Refusal) → is_err x ≡ false → refusal_of x ≡ open_refusal k (areas s r c) → open_refusal k (areas s r c) ≡ 0
+        by (Ok v) t e = sym e
+        by (Err n) t e = absurd (false≢true (sym t))
 
-    module _ (number : ℕ) (en : (s₁ c₁ : Bytes) → Publishes k (areas s₁ r c₁) p → number ≡ open_refusal k (areas s₁ r c₁)) where
-      pub call_6_opening : (number ≡ 0 → ⊥) → 6 ≡ first_refusal k (areas s r c)
-      unfolding settled
-      call_6_opening x = by_settled false (rw (← en s c q, ne_eqb number 0 x) refl)
+    pub windows_unlike : (p.checkpoints.count ≡ p.slots.count / 1024 → ⊥) → false ≡ settled k (areas s r c)
+    windows_unlike x = sym (windows_differ k s r c g opens (λ y. x (q.checkpoints.count ∙ y ∙ ap (λ (i : ℕ). i / 1024) (sym q.slots.count))))
 
-      module _ (z : number ≡ 0) (l : length r < 2 ^ 64) where
-        opens : open_refusal k (areas s r c) ≡ 0
-        opens = sym (en s c q) ∙ z
+    module _ (w : p.checkpoints.count ≡ p.slots.count / 1024) (last : ℕ) (el : last ≡ number_before k r p.rows.end) where
+      windows : fill (checkpoint_width k) c ≡ fill 2 s / 1024
+      windows = sym q.checkpoints.count ∙ w ∙ ap (λ (i : ℕ). i / 1024) q.slots.count
 
-        sized : HoldHeaders (areas s r c)
-        sized = not_small s r c b e h
+      the_last : last ≡ last_number 0 (row_list k r)
+      the_last = el ∙ ap (number_before k r) q.rows.end ∙ last_is k s r c g opens l
 
-        pub call_6_windows : (p.checkpoints.count ≡ p.slots.count / 1024 → ⊥) → 6 ≡ first_refusal k (areas s r c)
-        call_6_windows x =
-            by_settled false
-            (windows_differ k s r c sized opens (λ y. x (q.checkpoints.count ∙ y ∙ ap (λ (i : ℕ). i / 1024) (sym q.slots.count))))
+      pub row_past_count : p.slots.count < last → leb last p.slots.count ≡ settled k (areas s r c)
+      row_past_count x = lt-leb last p.slots.count x ∙ sym (rows_above k s r c g opens l windows (omega (arith, the_last, q.slots.count)))
 
-        module _ (w : p.checkpoints.count ≡ p.slots.count / 1024) (last : ℕ) (el : last ≡ number_before k r p.rows.end) where
-          windows : fill (checkpoint_width k) c ≡ fill 2 s / 1024
-          windows = sym q.checkpoints.count ∙ w ∙ ap (λ (i : ℕ). i / 1024) q.slots.count
-
-          the_last : last ≡ last_number 0 (row_list k r)
-          the_last = el ∙ ap (number_before k r) q.rows.end ∙ last_is k s r c sized opens l
-
-          pub call_6_rows : p.slots.count < last → 6 ≡ first_refusal k (areas s r c)
-          call_6_rows x = by_settled false (rows_above k s r c sized opens l windows (omega (arith, the_last, q.slots.count)))
-
-          module _ (m : ℕ) (x : last ≤ p.slots.count) (em : m ≡ cut_past k s r p.slots.count p.rows.end) where
-            decided : settled k (areas s r c) ≡ eqb m p.slots.count
-            decided =
-                cut_decides k s r c sized opens l windows (omega (arith, the_last, q.slots.count)) m (em ∙ rw (q.slots.count, q.rows.end) refl)
-                ∙ ap (eqb m) (sym q.slots.count)
-
-            pub call_0 : m ≡ p.slots.count → 0 ≡ first_refusal k (areas s r c)
-            call_0 y = by_settled true (decided ∙ eq-eqb m p.slots.count y)
-
-            pub call_6_cut : (m ≡ p.slots.count → ⊥) → 6 ≡ first_refusal k (areas s r c)
-            call_6_cut y = by_settled false (decided ∙ ne_eqb m p.slots.count y)
+      pub cut_decides_it : (m : ℕ) → last ≤ p.slots.count → m ≡ cut_past k s r p.slots.count p.rows.end → eqb m p.slots.count ≡ settled k (areas s r c)
+      cut_decides_it m x em =
+          sym (cut_decides k s r c g opens l windows (omega (arith, the_last, q.slots.count)) m (em ∙ rw (q.slots.count, q.rows.end) refl)
+          ∙ ap (eqb m) (sym q.slots.count))

@@ -1,7 +1,9 @@
 -- What the check of a call finds of the areas, and what the first refusal leaves of them.
 -- Of an inner crate: its calls are stated by the definitions of loc_calls.
-use Rattle.std.specs.Prelude.{◌-◌, ◌*◌, ◌≤◌, ◌≡◌, length}
+use Rattle.std.specs.Prelude.{◌-◌, ◌*◌, ◌≤◌, ◌≡◌, length, Result, IfOk}
 use Rattle.loc_leaf.specs.declared.Kind.{Kind}
+use Rattle.loc_leaf.specs.declared.refusal.Refusal.{Refusal}
+use Rattle.loc_leaf.specs.Answers.{refusal_of}
 use Rattle.loc_leaf.specs.Area.{counted, fill, InPieces}
 use Rattle.loc_leaf.specs.Kind.{row_width, checkpoint_width}
 use Rattle.loc_calls.specs.Areas.{Areas}
@@ -28,10 +30,14 @@ pub record EndsOf (a : Areas) (e : Lengths) : Type 0 where
   pub rows : e.rows ≡ counted a.rows
   pub checkpoints : e.checkpoints ≡ counted a.checkpoints
 
--- 1, 6 or 0; how many records and rows are published, and up to where
-pub record Checks (k : Kind) (a : Areas) (r : Checked) : Type 0 where
-  pub number : r.number ≡ first_refusal k a
-  pub count : r.count ≡ fill 2 a.slots
-  pub rows : r.row_count ≡ fill (row_width k) a.rows
-  pub ends : EndsOf a r.ends
-  pub room : 2 * r.count ≤ length a.slots - 16
+-- what is found of areas that are not refused: how many records and rows are published, and up to where
+pub record Finds (k : Kind) (a : Areas) (o : Checked) : Type 0 where
+  pub count : o.count ≡ fill 2 a.slots
+  pub rows : o.row_count ≡ fill (row_width k) a.rows
+  pub ends : EndsOf a o.ends
+  pub room : 2 * o.count ≤ length a.slots - 16
+
+-- 1 or 6, or what is found
+pub record Checks (k : Kind) (a : Areas) (r : Result Checked Refusal) : Type 0 where
+  pub number : refusal_of r ≡ first_refusal k a
+  pub found : IfOk r (Finds k a)

@@ -1,118 +1,97 @@
 // The refusals 1 to 5, and the check of number 6.
 // Of an inner crate; nothing is stored here.
 ghost use Rattle.std.specs.Prelude.{◌≡◌};
+ghost use Rattle.loc_leaf.specs.Answers.{refusal_of};
 ghost use Rattle.loc_leaf.specs.Bytes.{Bytes};
+ghost use Rattle.loc_calls.specs.Lent.{seen};
 ghost use Rattle.loc_calls.specs.Areas.{areas};
-ghost use Rattle.loc_calls.specs.Stores.{open_refusal};
-ghost use Rattle.loc_calls.specs.Calls.{too_small, first_refusal};
-ghost use Rattle.loc_store.specs.Areas.{Publishes, Checks};
+ghost use Rattle.loc_calls.specs.Stores.{open_refusal, settled};
+ghost use Rattle.loc_calls.specs.Calls.{too_small};
+ghost use Rattle.loc_store.specs.Areas.{HoldHeaders, Publishes, Checks};
 
 use crate::plan::{cut_count, number_before};
-use crate::{Checked, Lengths, Published};
+use crate::{Checked, Published};
+use loc_calls::Areas;
 use loc_leaf::Kind;
 use loc_leaf::delta_loc::{LOC_WINDOW, checkpoint_width, row_width};
 use loc_leaf::file::{FILE_HEADER_LEN, published};
-use loc_leaf::refusal::{
-    ACCEPTED, AREA_TOO_SMALL, CHECKPOINTS_NOT_WHOLE, NOT_OPENED, ROWS_NOT_ASCENDING,
-    ROWS_NOT_WHOLE, SLOTS_ODD,
-};
+use loc_leaf::refusal::Refusal;
 use loc_rows::rows_ascend;
 
 // 1: an area under 16 bytes.
-pub fn too_small(slots: &[u8], rows: &[u8], checkpoints: &[u8]) -> bool
-    ensures { result ≡ too_small (areas slots.now rows.now checkpoints.now) }
+#[tactic(auto, unfolding(loc_calls::specs::Calls::too_small))]
+pub fn too_small(a: Areas) -> bool
+    ensures { result ≡ too_small (seen a.entry) }
 {
-    if slots.len() < FILE_HEADER_LEN {
-        return true;
-    }
-    if rows.len() < FILE_HEADER_LEN {
-        return true;
-    }
-    checkpoints.len() < FILE_HEADER_LEN
+    a.slots.len() < FILE_HEADER_LEN
+        || a.rows.len() < FILE_HEADER_LEN
+        || a.checkpoints.len() < FILE_HEADER_LEN
 }
 
-pub fn published_areas(kind: Kind, slots: &[u8], rows: &[u8], checkpoints: &[u8]) -> Published
-    ensures { Publishes kind (areas slots.now rows.now checkpoints.now) result }
+pub fn published_areas(kind: Kind, a: Areas) -> Published
+    ensures { Publishes kind (seen a.entry) result }
 {
-    let slot_pieces = published(slots, 2);
-    let row_pieces = published(rows, row_width(kind));
-    let checkpoint_pieces = published(checkpoints, checkpoint_width(kind));
     Published {
-        slots: slot_pieces,
-        rows: row_pieces,
-        checkpoints: checkpoint_pieces,
+        slots: published(a.slots, 2),
+        rows: published(a.rows, row_width(kind)),
+        checkpoints: published(a.checkpoints, checkpoint_width(kind)),
     }
 }
 
-// Up to where the areas publish.
-pub fn ends(p: Published) -> Lengths
-    ensures { (result.slots ≡ p.slots.end) × (result.rows ≡ p.rows.end) × (result.checkpoints ≡ p.checkpoints.end) }
-{
-    Lengths {
-        slots: p.slots.end as u64,
-        rows: p.rows.end as u64,
-        checkpoints: p.checkpoints.end as u64,
-    }
-}
-
-// 2 to 5 in order, 0 where opening accepts.
-pub fn open_refusal(kind: Kind, rows: &[u8], p: Published) -> u64
-    ensures { (s c : Bytes) → Publishes kind (areas s rows.now c) p → result ≡ open_refusal kind (areas s rows.now c) }
+// 2 to 5 in order.
+#[tactic(auto, unfolding(loc_calls::specs::Stores::open_refusal, loc_calls::specs::Stores::ragged))]
+pub fn open_refusal(kind: Kind, rows: &[u8], p: Published) -> Result<(), Refusal>
+    ensures { (s c : Bytes) → Publishes kind (areas s rows.now c) p → refusal_of result ≡ open_refusal kind (areas s rows.now c) }
 {
     if p.slots.left != 0 {
-        return SLOTS_ODD;
+        return Err(Refusal::SlotsOdd);
     }
     if p.checkpoints.left != 0 {
-        return CHECKPOINTS_NOT_WHOLE;
+        return Err(Refusal::CheckpointsNotWhole);
     }
     if p.rows.left != 0 {
-        return ROWS_NOT_WHOLE;
+        return Err(Refusal::RowsNotWhole);
     }
     if rows_ascend(kind, rows) {
-        return ACCEPTED;
+        Ok(())
+    } else {
+        Err(Refusal::RowsNotAscending)
     }
-    ROWS_NOT_ASCENDING
 }
 
-// 1, then 6. Opening would change no length where there is a checkpoint for each whole window, no row is numbered above the count,
-// and the cut rule keeps all records.
-fn call_refusal(kind: Kind, slots: &[u8], rows: &[u8], checkpoints: &[u8], p: Published) -> u64
-    requires { Publishes kind (areas slots.now rows.now checkpoints.now) p }
-    ensures { result ≡ first_refusal kind (areas slots.now rows.now checkpoints.now) }
+// Whether number 6 is not given: opening would refuse nothing, and change no length, since there is a checkpoint for each whole window,
+// no row is numbered above the count, and the cut rule keeps all records.
+fn settled(kind: Kind, a: Areas, p: Published) -> bool
+    requires { HoldHeaders (seen a) × Publishes kind (seen a) p }
+    ensures { result ≡ settled kind (seen a.entry) }
 {
-    if too_small(slots, rows, checkpoints) {
-        return AREA_TOO_SMALL;
-    }
-    let opening = open_refusal(kind, rows, p);
-    if opening != ACCEPTED {
-        return NOT_OPENED;
+    if open_refusal(kind, a.rows, p).is_err() {
+        return false;
     }
     let count = p.slots.count as u64;
     if p.checkpoints.count as u64 != count / LOC_WINDOW {
-        return NOT_OPENED;
+        return false;
     }
     let end = p.rows.end;
-    let last = number_before(kind, rows, end);
-    if count < last {
-        return NOT_OPENED;
-    }
-    if cut_count(kind, slots, rows, count, end, last) == count {
-        ACCEPTED
-    } else {
-        NOT_OPENED
-    }
+    let last = number_before(kind, a.rows, end);
+    last <= count && cut_count(kind, a.slots, a.rows, count, end, last) == count
 }
 
-// What every call but creation and opening begins with.
-pub fn check_areas(kind: Kind, slots: &[u8], rows: &[u8], checkpoints: &[u8]) -> Checked
-    ensures { Checks kind (areas slots.now rows.now checkpoints.now) result }
+// 1, then 6: what every call but creation and opening begins with.
+pub fn check_areas(kind: Kind, a: Areas) -> Result<Checked, Refusal>
+    ensures { Checks kind (seen a.entry) result }
 {
-    let p = published_areas(kind, slots, rows, checkpoints);
-    let number = call_refusal(kind, slots, rows, checkpoints, p);
-    Checked {
-        number,
-        count: p.slots.count as u64,
-        row_count: p.rows.count,
-        ends: ends(p),
+    if too_small(a) {
+        return Err(Refusal::AreaTooSmall);
+    }
+    let p = published_areas(kind, a);
+    if settled(kind, a, p) {
+        Ok(Checked {
+            count: p.slots.count as u64,
+            row_count: p.rows.count,
+            ends: p.ends(),
+        })
+    } else {
+        Err(Refusal::NotOpened)
     }
 }

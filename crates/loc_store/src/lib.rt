@@ -2,6 +2,8 @@
 // An inner crate: its calls ask nothing, but functions below them may have a `requires`.
 #![tactic(auto)]
 
+ghost use Rattle.std.specs.Prelude.{◌≡◌};
+
 pub mod check;
 pub mod create;
 pub mod open;
@@ -27,10 +29,22 @@ pub struct Published {
     pub checkpoints: Pieces,
 }
 
-// What the check of a call finds: 1, 6 or 0; how many records and rows are published, and up to where.
+impl Published {
+    // Up to where the areas publish.
+    pub fn ends(self) -> Lengths
+        ensures { (result.slots ≡ self.slots.end) × (result.rows ≡ self.rows.end) × (result.checkpoints ≡ self.checkpoints.end) }
+    {
+        Lengths {
+            slots: self.slots.end as u64,
+            rows: self.rows.end as u64,
+            checkpoints: self.checkpoints.end as u64,
+        }
+    }
+}
+
+// What the check of a call finds of areas that it does not refuse: how many records and rows are published, and up to where.
 #[derive(Clone, Copy)]
 pub struct Checked {
-    pub number: u64,
     pub count: u64,
     pub row_count: usize,
     pub ends: Lengths,

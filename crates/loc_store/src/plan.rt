@@ -2,11 +2,12 @@
 // Of an inner crate; the rows ascend and the areas hold 16 bytes where that is required.
 ghost use Rattle.std.specs.Prelude.{◌≡◌, true, ◌+◌, ◌-◌, ◌*◌, ◌^◌, ◌≤◌, ◌<◌, length};
 ghost use Rattle.loc_leaf.specs.Rows.{row_list, ascending};
-ghost use Rattle.loc_calls.specs.Areas.{areas};
+ghost use Rattle.loc_calls.specs.Lent.{seen};
 ghost use Rattle.loc_store.specs.Areas.{HoldHeaders, Publishes};
 ghost use Rattle.loc_store.specs.Plans.{lengths_for, number_before, cut_past, rules_for};
 
 use crate::{Lengths, Published, Rules};
+use loc_calls::Areas;
 use loc_leaf::Kind;
 use loc_leaf::delta_loc::{
     LOC_WINDOW, checkpoint_prefix, checkpoint_width, cut_for_ovf_row, row_width, rows_up_to,
@@ -20,17 +21,15 @@ pub fn lengths(kind: Kind, rows: &[u8], n: u64) -> Lengths
 {
     let row_bytes = row_width(kind) * rows_up_to(kind, rows, n);
     let checkpoint_bytes = checkpoint_width(kind) as u64 * (n / LOC_WINDOW);
-    let slot_end = 16 + 2 * n;
-    let row_end = 16 + row_bytes as u64;
-    let checkpoint_end = 16 + checkpoint_bytes;
     Lengths {
-        slots: slot_end,
-        rows: row_end,
-        checkpoints: checkpoint_end,
+        slots: 16 + 2 * n,
+        rows: 16 + row_bytes as u64,
+        checkpoints: 16 + checkpoint_bytes,
     }
 }
 
-// The number of the row that ends at a place, 0 where the rows begin there.
+// The number of the row that ends at a place, 0 where the rows begin there: the first number is 1 or more.
+#[tactic(auto, unfolding(crate::specs::Plans::number_before))]
 pub fn number_before(kind: Kind, rows: &[u8], end: usize) -> u64
     ensures { result ≡ number_before kind rows.now end }
 {
@@ -41,6 +40,7 @@ pub fn number_before(kind: Kind, rows: &[u8], end: usize) -> u64
 }
 
 // The count that the cut rule keeps of n records whose rows end at a place, with a row of this number.
+#[tactic(auto, unfolding(crate::specs::Plans::cut_past))]
 pub fn cut_count(kind: Kind, slots: &[u8], rows: &[u8], n: u64, end: usize, last: u64) -> u64
     requires { (end ≤ length rows.now) × (last ≡ number_before kind rows.now end) }
     ensures { (result ≡ cut_past kind slots.now rows.now n end) × (result ≤ n) }
@@ -53,25 +53,24 @@ pub fn cut_count(kind: Kind, slots: &[u8], rows: &[u8], n: u64, end: usize, last
 }
 
 // The lengths of an opening's two truncations. Where the cut rule keeps all that the checkpoint rule kept, they are the same.
-pub fn rules(kind: Kind, slots: &[u8], rows: &[u8], checkpoints: &[u8], p: Published) -> Rules
-    requires hold_headers { HoldHeaders (areas slots.now rows.now checkpoints.now) × Publishes kind (areas slots.now rows.now checkpoints.now) p }
-    requires rows_value { ascending 0 (row_list kind rows.now) ≡ true }
-    ensures { result ≡ rules_for kind (areas slots.now rows.now checkpoints.now) }
+pub fn rules(kind: Kind, a: Areas, p: Published) -> Rules
+    requires hold_headers { HoldHeaders (seen a) × Publishes kind (seen a) p }
+    requires rows_value { ascending 0 (row_list kind a.rows.now) ≡ true }
+    ensures { result ≡ rules_for kind (seen a.entry) }
 {
     let n = checkpoint_prefix(p.slots.count as u64, p.checkpoints.count as u64);
-    let by_checkpoint = lengths(kind, rows, n);
-    let end = by_checkpoint.rows as usize;
-    let last = number_before(kind, rows, end);
-    let kept = cut_count(kind, slots, rows, n, end, last);
+    let checkpoint = lengths(kind, a.rows, n);
+    let end = checkpoint.rows as usize;
+    let last = number_before(kind, a.rows, end);
+    let kept = cut_count(kind, a.slots, a.rows, n, end, last);
     if kept == n {
         return Rules {
-            checkpoint: by_checkpoint,
-            cut: by_checkpoint,
+            checkpoint,
+            cut: checkpoint,
         };
     }
-    let by_cut = lengths(kind, rows, kept);
     Rules {
-        checkpoint: by_checkpoint,
-        cut: by_cut,
+        checkpoint,
+        cut: lengths(kind, a.rows, kept),
     }
 }

@@ -1,5 +1,6 @@
 -- The sums of records by the rows from a place on: none, one more, all of them.
 -- Where no record lacks its row they are the sums of a reading.
+use Rattle.std.specs.Prelude.{Option, Some, None}
 use Prim.Native.Nat.{ℕ, zero, suc, ◌+◌, ◌-◌, ◌*◌, ◌^◌, ◌≤◌, ◌<◌}
 use mathlib.Core.Path.{◌≡◌, refl, sym, ap, ◌∙◌, subst}
 use mathlib.Core.Logic.{⊎_elim}
@@ -11,11 +12,7 @@ use native.Mathlib.Omega.{arith}
 use lib.ListN.{length, get_or, take, drop}
 use Rattle.loc_leaf.specs.declared.Kind.{Kind}
 use Rattle.loc_leaf.specs.declared.Value.{Value}
-use Rattle.loc_leaf.specs.declared.delta_loc.Lookup.{Lookup}
-use Rattle.loc_leaf.specs.declared.delta_loc.Lookup.TheVariants.{Found, Missing}
 use Rattle.loc_leaf.specs.Bytes.{Bytes}
-use Rattle.loc_leaf.specs.Area.{fill}
-use Rattle.loc_leaf.specs.Kind.{row_width}
 use Rattle.loc_leaf.specs.Slot.{needs_row, inline}
 use Rattle.loc_leaf.specs.Rows.{row_list, row_value, number_in, value_in}
 use Rattle.loc_leaf.proofs.RowLaws.{rising, rows_count}
@@ -28,21 +25,21 @@ use Rattle.loc_window.proofs.SumLaws.{lookup_is}
 use Rattle.loc_window.proofs.WindowLaws.{part_copied, complete_same, strides_same, spans_same}
 use Rattle.loc_total.specs.declared.Total.{Total}
 use Rattle.loc_total.specs.Slots.{SlotTotal}
-use Rattle.loc_total.specs.Total.{Totalled, lookup_from, value_or, lack, value_from, lack_from, WithRows, RowsReady}
+use Rattle.loc_total.specs.Total.{Totalled, lookup_from, value_or, lack, value_from, lack_from, WithRows}
 use Rattle.loc_total.proofs.SumLaws.{sum_next, sum_changed, bits_low}
 use Rattle.loc_total.proofs.SlotLaws.{total_of}
 use Rattle.loc_total.proofs.PlaceLaws.{from_other, from_here, from_behind, from_past}
 
 module _ (k : Kind) (f : ℕ) (bytes rows : Bytes) (m : ℕ) where
   -- what a record's number and lookup give, added up by the rows from a place on
-  abbrev sum_of : (ℕ → Lookup → ℕ) → ℕ → ℕ
+  abbrev sum_of : (ℕ → Option Value → ℕ) → ℕ → ℕ
   sum_of g p = sum_from (λ i. g i (lookup_from k f bytes rows p i)) 0 m
 
   -- the three sums
-  abbrev strides : ℕ → Lookup → ℕ
+  abbrev strides : ℕ → Option Value → ℕ
   strides i l = (value_or (inline k (slot_bytes bytes i)) l).strides
 
-  abbrev spans : ℕ → Lookup → ℕ
+  abbrev spans : ℕ → Option Value → ℕ
   spans i l = (value_or (inline k (slot_bytes bytes i)) l).spans
 
   -- ---- no row
@@ -58,20 +55,20 @@ module _ (k : Kind) (f : ℕ) (bytes rows : Bytes) (m : ℕ) where
         spans_low = omega (arith, p.spans_low, p.is_lacking, bits_low k bytes 0 m);
       }
     where
-      past : (i : ℕ) → lookup_from k f bytes rows nr i ≡ cond (needs_row k (slot_bytes bytes i)) Missing (Found (inline k (slot_bytes bytes i)))
+      past : (i : ℕ) → lookup_from k f bytes rows nr i ≡ cond (needs_row k (slot_bytes bytes i)) None (Some (inline k (slot_bytes bytes i)))
       past i = ap (λ (n : ℕ). lookup_from k f bytes rows n i) (r.counted ∙ sym (rows_count k rows)) ∙ from_past k f bytes rows i
 
-      same : (g : ℕ → Lookup → ℕ) (h : ℕ → ℕ) → ((i : ℕ) → g i (cond (needs_row k (slot_bytes bytes i)) Missing (Found (inline k (slot_bytes bytes i)))) ≡ h i) → sum_from h 0 m ≡ sum_of g nr
+      same : (g : ℕ → Option Value → ℕ) (h : ℕ → ℕ) → ((i : ℕ) → g i (cond (needs_row k (slot_bytes bytes i)) None (Some (inline k (slot_bytes bytes i)))) ≡ h i) → sum_from h 0 m ≡ sum_of g nr
       same g h e = sum_same h (λ i. g i (lookup_from k f bytes rows nr i)) 0 0 m (λ i l. sym (ap (g (0 + i)) (past (0 + i)) ∙ e (0 + i)))
 
-      either : (b : Bool) (v : Value) → value_or v (cond b Missing (Found v)) ≡ v
+      either : (b : Bool) (v : Value) → value_or v (cond b None (Some v)) ≡ v
       either true v = refl
       either false v = refl
 
-      value : (i : ℕ) (g : Value → ℕ) → g (value_or (inline k (slot_bytes bytes i)) (cond (needs_row k (slot_bytes bytes i)) Missing (Found (inline k (slot_bytes bytes i))))) ≡ g (inline k (slot_bytes bytes i))
+      value : (i : ℕ) (g : Value → ℕ) → g (value_or (inline k (slot_bytes bytes i)) (cond (needs_row k (slot_bytes bytes i)) None (Some (inline k (slot_bytes bytes i))))) ≡ g (inline k (slot_bytes bytes i))
       value i g = ap g (either (needs_row k (slot_bytes bytes i)) (inline k (slot_bytes bytes i)))
 
-      bit : (b : Bool) (v : Value) → lack (cond b Missing (Found v)) ≡ cond b 1 0
+      bit : (b : Bool) (v : Value) → lack (cond b None (Some v)) ≡ cond b 1 0
       bit true v = refl
       bit false v = refl
 
@@ -90,7 +87,7 @@ module _ (k : Kind) (f : ℕ) (bytes rows : Bytes) (m : ℕ) where
         spans_low = w.spans_low;
       }
     where
-      same : (g : ℕ → Lookup → ℕ) → sum_of g p ≡ sum_of g p'
+      same : (g : ℕ → Option Value → ℕ) → sum_of g p ≡ sum_of g p'
       same g = sum_same _ _ 0 0 m (λ i l. ap (g (0 + i)) (e (0 + i) (omega arith)))
 
   module _ (nr : ℕ) (r : Rising k rows nr) where
@@ -119,10 +116,6 @@ module _ (k : Kind) (f : ℕ) (bytes rows : Bytes) (m : ℕ) where
             (λ (s : q < p). omega (arith, rising 0 (row_list k rows) r.ascend q p s (within p h)))
             (eq-or-lt_of_le g)
 
-    -- what the walk asks, with the rows as they count
-    pub ready_counted : RowsReady k f bytes rows nr m → RowsReady k f bytes rows (fill (row_width k) rows) m
-    ready_counted w = record { few = w.few; long = w.long; rise = record { ascend = r.ascend; counted = refl } }
-
     -- ---- one row more, which is numbered id: it is record j's
 
     module _ (p id : ℕ) (t : Total) (h : p < nr) (ei : id ≡ number_in (row_list k rows) p) (g : f < id) (w : WithRows k f bytes rows m (p + 1) t) where
@@ -145,13 +138,13 @@ module _ (k : Kind) (f : ℕ) (bytes rows : Bytes) (m : ℕ) where
           needs = sym eb ∙ tb
 
           -- a sum changes at record j alone
-          changed : (g : ℕ → Lookup → ℕ) → (sum_of g p + g j Missing ≡ sum_of g (p + 1) + g j (Found v)) × (g j Missing ≤ sum_of g (p + 1))
+          changed : (g : ℕ → Option Value → ℕ) → (sum_of g p + g j None ≡ sum_of g (p + 1) + g j (Some v)) × (g j None ≤ sum_of g (p + 1))
           changed g = (omega (arith, here, behind, it.0), omega (arith, behind, it.1))
             where
-              here : g j (lookup_from k f bytes rows p j) ≡ g j (Found v)
-              here = ap (g j) (from_here k f bytes rows j p (within p h) e needs ∙ ap (λ (u : Value). Found u) (sym ev))
+              here : g j (lookup_from k f bytes rows p j) ≡ g j (Some v)
+              here = ap (g j) (from_here k f bytes rows j p (within p h) e needs ∙ ap (λ (u : Value). Some u) (sym ev))
 
-              behind : g j (lookup_from k f bytes rows (p + 1) j) ≡ g j Missing
+              behind : g j (lookup_from k f bytes rows (p + 1) j) ≡ g j None
               behind = ap (g j) (from_behind k f bytes rows j r.ascend p (within p h) e needs)
 
               other : (i : ℕ) → i < m → (i ≡ j → ⊥) → g i (lookup_from k f bytes rows p i) ≡ g i (lookup_from k f bytes rows (p + 1) i)
@@ -197,7 +190,7 @@ after_sum h f zero = refl
 after_sum h f (suc n) = (λ i. after_sum h f n i + h (f + suc n)) ∙ sym (ap (sum_from (λ i. h (f + suc i)) 0) (sym (add-one n)) ∙ sum_next (λ i. h (f + suc i)) n)
 
 -- how many of them lack their row, and whether one does
-module _ (at : ℕ → Lookup) (f : ℕ) where
+module _ (at : ℕ → Option Value) (f : ℕ) where
   abbrev lacking : ℕ → ℕ
   lacking m = sum_from (λ i. lack (at (f + suc i))) 0 m
 
@@ -209,27 +202,27 @@ module _ (at : ℕ → Lookup) (f : ℕ) where
   all_says zero = (λ _. refl, λ d. absurd (d refl))
   all_says (suc n) = go (at (f + suc n)) refl (all_says n)
     where
-      next : (l : Lookup) → at (f + suc n) ≡ l → lacking (suc n) ≡ lacking n + lack l
-      next l e = ap lacking (sym (add-one n)) ∙ sum_next (λ i. lack (at (f + suc i))) n ∙ ap (λ (u : Lookup). lacking n + lack u) e
+      next : (l : Option Value) → at (f + suc n) ≡ l → lacking (suc n) ≡ lacking n + lack l
+      next l e = ap lacking (sym (add-one n)) ∙ sum_next (λ i. lack (at (f + suc i))) n ∙ ap (λ (u : Option Value). lacking n + lack u) e
 
-      both : (b : Bool) (l : Lookup) → at (f + suc n) ≡ l → all_after (λ i. has (at i)) f n ≡ b → all_after (λ i. has (at i)) f (suc n) ≡ (b && has l)
+      both : (b : Bool) (l : Option Value) → at (f + suc n) ≡ l → all_after (λ i. has (at i)) f n ≡ b → all_after (λ i. has (at i)) f (suc n) ≡ (b && has l)
       both b l e q = (λ i. q i && has (e i))
 
-      go : (l : Lookup) → at (f + suc n) ≡ l → Says n → Says (suc n)
-      go (Found v) e s = (
-        λ z. both true (Found v) e (s.0 (omega (arith, next (Found v) e))),
-        λ d. both false (Found v) e (s.1 (λ z. d (omega (arith, next (Found v) e)))),
+      go : (l : Option Value) → at (f + suc n) ≡ l → Says n → Says (suc n)
+      go (Some v) e s = (
+        λ z. both true (Some v) e (s.0 (omega (arith, next (Some v) e))),
+        λ d. both false (Some v) e (s.1 (λ z. d (omega (arith, next (Some v) e)))),
       )
-      go Missing e s = (
-        λ z. absurd (omega (arith, next Missing e)),
-        λ d. both (all_after (λ i. has (at i)) f n) Missing e refl ∙ and-false (all_after (λ i. has (at i)) f n),
+      go None e s = (
+        λ z. absurd (omega (arith, next None e)),
+        λ d. both (all_after (λ i. has (at i)) f n) None e refl ∙ and-false (all_after (λ i. has (at i)) f n),
       )
 
 -- a record that lacks no row has its own value
-own : (v : Value) (l : Lookup) → lack l ≡ 0 → value_or v l ≡ value_in l
+own : (v : Value) (l : Option Value) → lack l ≡ 0 → value_or v l ≡ value_in l
 unfolding value_or lack value_in
-own v (Found u) e = refl
-own v Missing e = absurd (omega arith)
+own v (Some u) e = refl
+own v None e = absurd (omega arith)
 
 module _ (k : Kind) (f : ℕ) (bytes rows : Bytes) (m : ℕ) (t : Total) (w : WithRows k f bytes rows m 0 t) where
   abbrev there : Areas

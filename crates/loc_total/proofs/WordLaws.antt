@@ -8,7 +8,7 @@ use native.Mathlib.Nat.{le_antisymm}
 use native.Mathlib.Omega.{arith}
 use lib.Bits.{bit_and}
 use lib.ListN.{take, drop}
-use lib.Pow.{low, high}
+use lib.Pow.{low}
 use Rattle.loc_leaf.specs.declared.Kind.{Kind}
 use Rattle.loc_leaf.specs.declared.Kind.TheVariants.{Paired, Single}
 use Rattle.loc_leaf.specs.Bytes.{Bytes, bytes}
@@ -78,11 +78,6 @@ four_total u x s r p h e =
     let lc : x / 2 ^ 32 % 2 ^ 16 ≡ p.c = ap (λ (n : ℕ). n % 2 ^ 16) vc ∙ low p.d 16 (omega arith) in
     let ld : x / 2 ^ 48 % 2 ^ 16 ≡ p.d = ap (λ (n : ℕ). n % 2 ^ 16) (vd ∙ omega arith) ∙ low 0 16 (omega arith) in
     omega (arith, la, lb, lc, ld, p.sum, records_are x 0)
-
-pub two_total : (x u s : ℕ) → Two u x s → u < 2 ^ 32 → x / 2 ^ 32 + x % 2 ^ 32 ≡ s
-two_total x u s p h =
-    let f : p.a < 2 ^ 32 = omega (arith, p.low.0) in
-    (λ i. (ap (λ (n : ℕ). n / 2 ^ 32) p.is ∙ high p.b 32 f) i + (ap (λ (n : ℕ). n % 2 ^ 32) p.is ∙ low p.b 32 f) i) ∙ omega (arith, p.sum)
 
 -- ---- one word
 
@@ -255,6 +250,3 @@ module _ (s : Bytes) where
 
     pub single_kept : (x z : ℕ) → SingleWords s i x z → ((u q : ℕ) → Two u z q → u < 2 ^ 32 → r ≡ q) → r / 2 ^ 16 ≤ 4 * n
     single_kept x z p ez = let sz : r ≡ 65536 * (4 * i - needing Single s (4 * i)) = ez _ _ p.full (omega arith) in omega arith
-
-pub kind_total : (k j : Kind) (s : Bytes) (n : ℕ) (t : Total) → k ≡ j → SlotTotal j s n t → SlotTotal k s n t
-kind_total k j s n t e p = subst (λ (i : Kind). SlotTotal i s n t) (sym e) p

@@ -1,10 +1,8 @@
 -- What the m records that follow record f add up to, and how many of them lack their row.
 -- Of an inner crate: nr counts the rows, and bytes are the slots of the records.
-use Rattle.std.specs.Prelude.{ℕ, suc, ◌+◌, ◌*◌, ◌^◌, ◌≤◌, ◌<◌, ◌≡◌, true, false, length, drop}
+use Rattle.std.specs.Prelude.{ℕ, suc, ◌+◌, ◌*◌, ◌^◌, ◌≤◌, ◌<◌, ◌≡◌, true, false, length, drop, Option, Some, None}
 use Rattle.loc_leaf.specs.declared.Kind.{Kind}
 use Rattle.loc_leaf.specs.declared.Value.{Value}
-use Rattle.loc_leaf.specs.declared.delta_loc.Lookup.{Lookup}
-use Rattle.loc_leaf.specs.declared.delta_loc.Lookup.TheVariants.{Found, Missing}
 use Rattle.loc_leaf.specs.Bytes.{Bytes}
 use Rattle.loc_leaf.specs.Slot.{inline}
 use Rattle.loc_leaf.specs.Rows.{row_list, slot_value}
@@ -12,6 +10,7 @@ use Rattle.loc_calls.specs.Areas.{Areas}
 use Rattle.loc_calls.specs.Reading.{complete, strides_after, spans_after}
 use Rattle.loc_leaf.specs.Block.{slot_bytes, sum_from}
 use Rattle.loc_window.specs.Window.{Rising}
+use Rattle.loc_total.specs.declared.Part.{Part}
 use Rattle.loc_total.specs.declared.Total.{Total}
 
 -- what is asked of slots and rows
@@ -33,17 +32,17 @@ pub record Totalled (k : Kind) (a : Areas) (f m : ℕ) (t : Total) : Type 0 wher
 -- ---- some of the rows
 
 -- what slot i, counted from 0, and the rows from a place on say of its record
-unfoldable pub lookup_from : Kind → ℕ → Bytes → Bytes → ℕ → ℕ → Lookup
+unfoldable pub lookup_from : Kind → ℕ → Bytes → Bytes → ℕ → ℕ → Option Value
 lookup_from k f bytes rows place i = slot_value k (drop place (row_list k rows)) (f + suc i) (slot_bytes bytes i)
 
 -- the slot's bytes stand in for a row that is missing
-unfoldable pub value_or : Value → Lookup → Value
-value_or v (Found u) = u
-value_or v Missing = v
+unfoldable pub value_or : Value → Option Value → Value
+value_or v (Some u) = u
+value_or v None = v
 
-unfoldable pub lack : Lookup → ℕ
-lack (Found u) = 0
-lack Missing = 1
+unfoldable pub lack : Option Value → ℕ
+lack (Some u) = 0
+lack None = 1
 
 -- record i's value and whether it lacks its row, by the rows from a place on
 abbrev pub value_from : Kind → ℕ → Bytes → Bytes → ℕ → ℕ → Value
@@ -65,3 +64,11 @@ pub record RowsReady (k : Kind) (f : ℕ) (bytes rows : Bytes) (nr m : ℕ) : Ty
   pub few : m ≤ 1024
   pub long : 2 * m ≤ length bytes
   pub rise : Rising k rows nr
+
+-- ---- the same of a part, as the code is lent it
+
+abbrev pub PartReady : Part → Type 0
+PartReady p = RowsReady p.kind p.base p.bytes.now p.rows.now p.row_count p.m
+
+abbrev pub PartSums : Part → ℕ → Total → Type 0
+PartSums p place t = WithRows p.kind p.base p.bytes.now p.rows.now p.m place t

@@ -1,5 +1,5 @@
 // What slots say, added up a word at a time: a word has four records, each in its lane.
-// No branch depends on a slot, so that the compiler takes several words at once; each kind has its own loop.
+// No branch depends on a slot, so that the compiler takes several words at once. Each kind has its own function: its lanes have a width, and sums, of their own.
 ghost use Rattle.std.specs.Prelude.{◌≡◌, ℕ, ◌+◌, ◌*◌, ◌^◌, ◌<◌, ◌≤◌, length};
 ghost use Rattle.loc_leaf.specs.declared.Kind.TheVariants.{Paired, Single};
 ghost use Rattle.loc_total.specs.Slots.{Two, SlotTotal};
@@ -17,13 +17,11 @@ fn pair_words(bytes: &[u8], n: usize) -> Total
     let mut x: u64 = 0;
     let mut y: u64 = 0;
     let mut z: u64 = 0;
-    let mut i: usize = 0;
-    while i < n {
+    for i in 0..n {
         let w = word_at(bytes, 8 * i);
         x += w & BYTES;
         y += (w >> 8) & BYTES;
         z += full(w) >> 8;
-        i += 1;
     }
     let strides = strides_total(x, 0);
     let spans = strides_total(y, 0);
@@ -49,12 +47,10 @@ fn single_words(bytes: &[u8], n: usize) -> Total
 {
     let mut x: u64 = 0;
     let mut z: u64 = 0;
-    let mut i: usize = 0;
-    while i < n {
+    for i in 0..n {
         let w = word_at(bytes, 8 * i);
         x += (w & WORDS) + ((w >> 16) & WORDS);
         z += even_full(w) + even_full(w >> 16);
-        i += 1;
     }
     let strides = two_total(x);
     let lacking = 4 * n as u64 - two_total(z) / 0x1_0000;

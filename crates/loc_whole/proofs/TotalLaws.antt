@@ -2,7 +2,8 @@
 -- A part of the slots stands in for reading's copy of them.
 use Prim.Native.Nat.{ℕ, zero, suc, ◌+◌, ◌-◌, ◌*◌, ◌/◌, ◌≤◌, ◌<◌}
 use mathlib.Core.Path.{◌≡◌, refl, sym, ap, ◌∙◌, subst}
-use mathlib.Core.Bool.{Bool, true, false, ◌&&◌, and-true, true≢false}
+use mathlib.Core.Bool.{Bool, true, false, not, ◌&&◌, and-true, true≢false}
+use mir.Val.{bool_byte}
 use mathlib.Core.List.{List}
 use native.Mathlib.Nat.{add-zero, add-suc}
 use native.Mathlib.Numerals.{add-one}
@@ -15,13 +16,12 @@ use Rattle.loc_leaf.specs.Rows.{row_list}
 use Rattle.loc_calls.specs.Areas.{Areas, areas}
 use Rattle.loc_calls.specs.Reading.{sum_after, all_after, lookup_at, has, value_at, complete, spans_after}
 use Rattle.loc_window.specs.declared.Sums.{Sums}
-use Rattle.loc_window.specs.declared.Step.{Step}
-use Rattle.loc_window.specs.declared.Step.TheVariants.{Next, Lack}
+use Rattle.std.specs.Prelude.{Option, Some, None}
 use Rattle.loc_window.specs.Window.{window_areas, Passed, After, sums_of, Right, SumsStored, Summing, WindowSummed, Copied}
 use Rattle.loc_window.proofs.PlannedLaws.{all_before}
 use Rattle.loc_window.proofs.WindowLaws.{part_copied, complete_same, strides_same, spans_same, right_spans}
 use Rattle.loc_window.proofs.SummingLaws.{summing_begins}
-use Rattle.loc_whole.specs.Totals.{Walkable, Totals, Running, Totalled, Lent}
+use Rattle.loc_whole.specs.Totals.{Walkable, Totals, Running, Totalled}
 
 -- ---- fewer records, and those after them
 
@@ -86,47 +86,50 @@ module _ (a : Areas) (f m : ℕ) (some : 0 < m) where
       right_spans Paired a f m lent lent copied (suc j) body span h
       (subst (λ (i : ℕ). Right Paired f lent a.rows i body span) (add-one j) (w.next j h (ap (λ (l : List ℕ). get_or l (j / 8) 0) e ∙ marked 128 (j / 8))))
 
-  part_totalled : (mark : List ℕ) (stamp : ℕ) (body span : List ℕ) (r : Step) → mark ≡ replicate 128 0 → WindowSummed Paired f lent a.rows mark stamp m body span r → Totalled a f m stamp span r
+  part_totalled : (mark : List ℕ) (stamp : ℕ) (each : Bool) (body span : List ℕ) (r : Option Sums) → mark ≡ replicate 128 0 → (each ≡ true → stamp ≡ 0)
+      → WindowSummed Paired f lent a.rows mark stamp m body span r → Totalled a f m each span r
   unfolding WindowSummed Totalled
-  part_totalled mark stamp body span (Next s) e w = (
+  part_totalled mark stamp each body span (Some s) e es w = (
     part_sums s w.0,
-    λ z. part_running mark body span e (subst (λ (i : ℕ). SumsStored Paired f lent a.rows mark i m body span) z w.1),
+    λ z. part_running mark body span e (subst (λ (i : ℕ). SumsStored Paired f lent a.rows mark i m body span) (es z) w.1),
   )
-  part_totalled mark stamp body span Lack e w = sym part_known ∙ w
+  part_totalled mark stamp each body span None e es w = sym part_known ∙ w
 
 -- the part as the code takes it: d bytes
 module _ (slots rows : Bytes) (nr f m row : ℕ) (g : Walkable slots rows nr f m row) (d : ℕ) (e : d ≡ 2 * m) (mark : List ℕ) (stamp : ℕ) where
   part_long : length (part slots f d) ≡ 2 * m
   part_long = length-take-le d (drop (16 + 2 * f) slots) (omega (arith, length-drop (16 + 2 * f) slots, g.room)) ∙ e
 
-  pub totals_ask : (body span : List ℕ) → Lent mark body span → (length mark ≡ 128) × Summing Paired (length body) f m (part slots f d) rows nr mark stamp 0 (sums_of 0 0 row 0) body span
-  totals_ask body span l = (
-    ap length l.marks ∙ length-replicate {A = ℕ} 128 0,
-    summing_begins Paired (length body) f m (part slots f d) rows nr mark stamp row body span (omega (arith, g.few)) (omega (arith, g.few, l.body_long)) (omega (arith, g.low)) (all_before Paired rows nr g.rise (f + 1024)) g.passed
-        (omega (arith, part_long)) refl (l.span_long ∙ sym l.body_long),
+  pub totals_ask : (body span : List ℕ) → mark ≡ replicate 128 0 → length body ≡ 257 → length span ≡ 257
+      → (length mark ≡ 128) × Summing Paired (length body) f m (part slots f d) rows nr mark stamp 0 (sums_of 0 0 row 0) body span
+  totals_ask body span em eb es = (
+    ap length em ∙ length-replicate {A = ℕ} 128 0,
+    summing_begins Paired (length body) f m (part slots f d) rows nr mark stamp row body span (omega (arith, g.few)) (omega (arith, g.few)) (omega (arith, g.low)) (all_before Paired rows nr g.rise (f + 1024)) g.passed
+        (omega (arith, part_long)) refl (es ∙ sym eb),
   )
 
-  pub totals_are : (body span : List ℕ) (r : Step) → mark ≡ replicate 128 0 → WindowSummed Paired f (part slots f d) rows mark stamp m body span r
-      → (c : Bytes) → Totalled (areas slots rows c) f m stamp span r
-  totals_are body span r em v c =
-      part_totalled (areas slots rows c) f m g.some mark stamp body span r em (subst (λ (i : ℕ). WindowSummed Paired f (part slots f i) rows mark stamp m body span r) e v)
+  pub totals_are : (c : Bytes) (each : Bool) (body span : List ℕ) (r : Option Sums) → mark ≡ replicate 128 0 → stamp ≡ bool_byte (not each) → WindowSummed Paired f (part slots f d) rows mark stamp m body span r
+      → Totalled (areas slots rows c) f m each span r
+  totals_are c each body span r em es v =
+      part_totalled (areas slots rows c) f m g.some mark stamp each body span r em (λ z. es ∙ ap (λ (b : Bool). bool_byte (not b)) z)
+      (subst (λ (i : ℕ). WindowSummed Paired f (part slots f i) rows mark stamp m body span r) e v)
 
 -- ---- by what is returned
 
-module _ (a : Areas) (f m stamp : ℕ) (span : List ℕ) (r : Step) (v : Totalled a f m stamp span r) where
-  pub totalled_next : (s : Sums) → r ≡ Next s → Totals a f m s
+module _ (a : Areas) (f m : ℕ) (each : Bool) (span : List ℕ) (r : Option Sums) (v : Totalled a f m each span r) where
+  pub totalled_next : (s : Sums) → r ≡ Some s → Totals a f m s
   unfolding Totalled
-  totalled_next s e = (subst (Totalled a f m stamp span) e v).0
+  totalled_next s e = (subst (Totalled a f m each span) e v).0
 
-  pub totalled_lack : r ≡ Lack → complete Paired a f m ≡ false
+  pub totalled_lack : r ≡ None → complete Paired a f m ≡ false
   unfolding Totalled
-  totalled_lack e = subst (Totalled a f m stamp span) e v
+  totalled_lack e = subst (Totalled a f m each span) e v
 
 -- where none lacks its row the sums are there, whatever is returned
-pub totalled_running : (a : Areas) (f m : ℕ) (span : List ℕ) (r : Step) → complete Paired a f m ≡ true → Totalled a f m 0 span r → Running a f m span
+pub totalled_running : (a : Areas) (f m : ℕ) (span : List ℕ) (r : Option Sums) → complete Paired a f m ≡ true → Totalled a f m true span r → Running a f m span
 unfolding Totalled
-totalled_running a f m span (Next s) e v = v.1 refl
-totalled_running a f m span Lack e v = absurd (true≢false (sym e ∙ v))
+totalled_running a f m span (Some s) e v = v.1 refl
+totalled_running a f m span None e v = absurd (true≢false (sym e ∙ v))
 
 -- ---- records that follow one another
 

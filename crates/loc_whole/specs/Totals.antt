@@ -1,14 +1,12 @@
 -- What the m records that follow record f add up to, in the areas themselves.
 -- Of an inner crate: nr counts the rows, of which `row` are passed before the records.
-use Rattle.std.specs.Prelude.{ℕ, ◌+◌, ◌*◌, ◌^◌, ◌≤◌, ◌<◌, ◌≡◌, true, false, List, length, get_or, replicate}
+use Rattle.std.specs.Prelude.{ℕ, ◌+◌, ◌*◌, ◌^◌, ◌≤◌, ◌<◌, ◌≡◌, Bool, true, false, Option, Some, None, List, length, get_or}
 use Rattle.loc_leaf.specs.declared.Kind.TheVariants.{Paired}
 use Rattle.loc_leaf.specs.Bytes.{Bytes}
 use Rattle.loc_leaf.specs.Rows.{row_list}
 use Rattle.loc_calls.specs.Areas.{Areas}
 use Rattle.loc_calls.specs.Reading.{complete, strides_after, spans_after}
 use Rattle.loc_window.specs.declared.Sums.{Sums}
-use Rattle.loc_window.specs.declared.Step.{Step}
-use Rattle.loc_window.specs.declared.Step.TheVariants.{Next, Lack}
 use Rattle.loc_window.specs.Window.{Passed, Rising}
 
 -- what a walk over them asks of slots and rows
@@ -33,13 +31,7 @@ pub record Totals (a : Areas) (f m : ℕ) (s : Sums) : Type 0 where
 abbrev pub Running : Areas → ℕ → ℕ → List ℕ → Type 0
 Running a f m span = (j : ℕ) → j ≤ m → get_or span j 0 ≡ spans_after Paired a f j
 
--- their sums, with the stamp 0 each of them, or one of them lacks its row
-unfoldable pub Totalled : Areas → ℕ → ℕ → ℕ → List ℕ → Step → Type 0
-Totalled a f m stamp span (Next s) = Totals a f m s × (stamp ≡ 0 → Running a f m span)
-Totalled a f m stamp span Lack = complete Paired a f m ≡ false
-
--- marks that mark nothing, and arrays for the sums of a quarter of a window
-pub record Lent (mark body span : List ℕ) : Type 0 where
-  pub marks : mark ≡ replicate 128 0
-  pub body_long : length body ≡ 257
-  pub span_long : length span ≡ 257
+-- their sums, and with `each` those of each number of them, or one of them lacks its row
+unfoldable pub Totalled : Areas → ℕ → ℕ → Bool → List ℕ → Option Sums → Type 0
+Totalled a f m each span (Some s) = Totals a f m s × (each ≡ true → Running a f m span)
+Totalled a f m each span None = complete Paired a f m ≡ false

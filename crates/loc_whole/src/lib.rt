@@ -3,3 +3,10 @@
 #![tactic(auto)]
 
 pub mod totals;
+
+// What each number of up to 256 records adds up to: strides and spans.
+#[derive(Drop)]
+pub struct RunningSums {
+    pub body: [u64; 257],
+    pub span: [u64; 257],
+}

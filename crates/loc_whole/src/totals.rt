@@ -2,42 +2,42 @@
 // `row` rows are passed before them, so that no search for the first row begins anew; their slots are lent as a part, not copied.
 ghost use Rattle.loc_leaf.specs.Bytes.{Bytes};
 ghost use Rattle.loc_calls.specs.Areas.{areas};
-ghost use Rattle.loc_whole.specs.Totals.{Walkable, Lent, Totalled};
+ghost use Rattle.loc_whole.specs.Totals.{Walkable, Totalled};
 
+use crate::RunningSums;
+use loc_calls::Areas;
 use loc_leaf::Kind;
 use loc_leaf::file::FILE_HEADER_LEN;
-use loc_window::Step;
 use loc_window::window::window_sums;
+use loc_window::{LentWindow, Sums};
 
-// Up to 256 records. Marks are all 0: with the stamp 1 only totals are made, with the stamp 0 the spans of each number of records are stored.
+// The mark of each block: with the stamp 0 all are marked, with the stamp 1 none is.
+const MARKS: [u64; 128] = [0; 128];
+
+// Up to 256 records. With `each` the sums of each number of records are stored, else only totals are made.
 pub fn totals(
-    slots: &[u8],
-    rows: &[u8],
+    a: Areas<'_>,
     row_count: usize,
     base: u64,
     m: usize,
     row: usize,
-    mark: &[u64],
-    stamp: u64,
-    body: &mut [u64],
-    span: &mut [u64],
-) -> Step
-    requires { Walkable slots.now rows.now row_count base m row × Lent mark.now body.old span.old }
-    ensures { (c : Bytes) → Totalled (areas slots.now rows.now c) base m stamp span.new result }
+    each: bool,
+    sums: &mut RunningSums,
+) -> Option<Sums>
+    requires { Walkable a.slots.now a.rows.now row_count base m row }
+    ensures { (c : Bytes) → Totalled (areas a.entry.slots.now a.entry.rows.now c) base m each sums.new.span result }
 {
     let at = FILE_HEADER_LEN + 2 * base as usize;
     let end = at + 2 * m;
-    window_sums(
-        Kind::Paired,
-        &slots[at..end],
+    let w = LentWindow {
+        kind: Kind::Paired,
+        bytes: &a.slots[at..end],
         m,
-        mark,
-        stamp,
-        rows,
-        row_count,
+        mark: &MARKS,
+        stamp: u64::from(!each),
+        rows: a.rows,
+        past: row_count,
         base,
-        row,
-        body,
-        span,
-    )
+    };
+    window_sums(&w, row, &mut sums.body, &mut sums.span)
 }

@@ -11,6 +11,7 @@ use lib.Pow.{shr-shr, low, high}
 use lib.ListN.{length, get_or, take, drop}
 use lib.Seq.{drop-cons, get_or-take, get_or-drop, take-add, drop-drop}
 use Rattle.loc_leaf.specs.declared.Kind.{Kind}
+use Rattle.std.specs.Int.{from_le_bytes, w64}
 use Rattle.loc_leaf.specs.Bytes.{Bytes, byte, bytes}
 use Rattle.loc_leaf.specs.Slot.{needs_row, inline}
 use Rattle.loc_leaf.specs.Block.{slot_bytes, row_bit, row_mask, sum_from, inline_strides, inline_spans}
@@ -73,12 +74,11 @@ eight_of s i h =
     ∙ ap (λ (l : List ℕ). get_or s (i + 5) 0 ∷ l) (next s 1 (i + 6) (i + 7) (omega arith) (omega arith)
     ∙ ap (λ (l : List ℕ). get_or s (i + 6) 0 ∷ l) (next s 0 (i + 7) (i + 8) (omega arith) (omega arith))))))))
 
--- a word that was put together from them
-pub word_bytes : (s : List ℕ) (i r : ℕ) → i + 8 ≤ length s → ((u : ℕ) → get_or s u 0 < 256)
-    → r ≡ flat (get_or s i 0) (get_or s (i + 1) 0) (get_or s (i + 2) 0) (get_or s (i + 3) 0) (get_or s (i + 4) 0) (get_or s (i + 5) 0) (get_or s (i + 6) 0) (get_or s (i + 7) 0)
+-- a word that they spell
+pub word_bytes : (s bs : List ℕ) (i r : ℕ) → i + 8 ≤ length s → ((u : ℕ) → get_or s u 0 < 256) → bs ≡ take 8 (drop i s) → r ≡ from_le_bytes w64 bs
     → bytes 8 r ≡ take 8 (drop i s)
-word_bytes s i r h b e =
-    ap (bytes 8) e
+word_bytes s bs i r h b q e =
+    ap (bytes 8) (e ∙ ap (from_le_bytes w64) (q ∙ eight_of s i h))
     ∙ flat_bytes (get_or s i 0) (get_or s (i + 1) 0) (get_or s (i + 2) 0) (get_or s (i + 3) 0) (get_or s (i + 4) 0) (get_or s (i + 5) 0) (get_or s (i + 6) 0) (get_or s (i + 7) 0)
     (b i) (b (i + 1)) (b (i + 2)) (b (i + 3)) (b (i + 4)) (b (i + 5)) (b (i + 6)) (b (i + 7))
     ∙ sym (eight_of s i h)

@@ -12,7 +12,7 @@ use lib.Dec.{eqb}
 use lib.ListN.{get_or, take, drop}
 use borrow.Author.Tests.{eqb-true}
 use Rattle.loc_leaf.specs.declared.Kind.{Kind}
-use Rattle.loc_leaf.specs.declared.Kind.TheVariants.{Paired, Single}
+use Rattle.loc_leaf.specs.declared.Kind.TheVariants.{Single}
 use Rattle.loc_leaf.specs.declared.Value.{Value}
 use Rattle.loc_leaf.specs.Bytes.{Bytes, byte, bytes}
 use Rattle.loc_leaf.specs.Block.{lowest, row_mask, sum_from, inline_strides, inline_spans}
@@ -22,9 +22,8 @@ use Rattle.loc_leaf.proofs.Booleans.{both_left, both_right}
 use Rattle.loc_leaf.proofs.MaskLaws.{mask_none, mask_first, mask_low, First}
 use Rattle.loc_calls.specs.Reading.{lookup_at, has}
 use Rattle.loc_window.specs.declared.Sums.{Sums}
-use Rattle.loc_window.specs.declared.Step.{Step}
-use Rattle.loc_window.specs.declared.Step.TheVariants.{Next, Lack}
-use Rattle.loc_window.specs.Window.{window_areas, complete, Below, RowsBefore, After, sums_of, plus_value, FoundRow, slot_bytes, BlockReady, BlockStepped, Swapping, Unmarked, BlocksAfter, PlainBlocks, BlocksPassed}
+use Rattle.std.specs.Prelude.{Option, Some, None}
+use Rattle.loc_window.specs.Window.{window_areas, complete, Below, RowsBefore, After, sums_of, plus_value, FoundRow, slot_bytes, BlockStepped, Swapping, Unmarked, BlocksAfter, PlainBlocks}
 use Rattle.loc_window.proofs.BlockLaws.{block_strides, block_spans, block_mask}
 use Rattle.loc_window.proofs.RowsLaws.{before_less}
 use Rattle.loc_window.proofs.SumLaws.{all_more, after_at, step_inline, step_row, lacks_row}
@@ -118,17 +117,17 @@ module _ (k : Kind) (s : Bytes) (mark : List ℕ) (stamp full : ℕ) (a : Sums) 
       }
 
   -- one block more
-  pub plain_next : (x y b lo hi dx dy y' : ℕ) → bytes 8 lo ≡ take 8 (drop (16 * b) s) → bytes 8 hi ≡ take 8 (drop (16 * b + 8) s)
-      → PlainBlocks k s mark stamp full a (sums_of x y a.row b) → b < full → (get_or mark b 0 ≡ stamp → ⊥) → row_mask k (bytes 8 lo ++ bytes 8 hi) 0 8 ≡ 0
-      → dx ≡ inline_strides k (bytes 8 lo ++ bytes 8 hi) 0 8 → dy ≡ inline_spans k (bytes 8 lo ++ bytes 8 hi) 0 8 → dx < 2 ^ 19 → dy < 2 ^ 19 → y' ≡ y + dy
-      → PlainBlocks k s mark stamp full a (sums_of (x + dx) y' a.row (b + 1))
-  plain_next x y b lo hi dx dy y' el eh w h m z ex ey hx hy e' =
+  pub plain_next : (x y r b lo hi dx dy : ℕ) → bytes 8 lo ≡ take 8 (drop (16 * b) s) → bytes 8 hi ≡ take 8 (drop (16 * b + 8) s)
+      → PlainBlocks k s mark stamp full a (sums_of x y r b) → b < full → (get_or mark b 0 ≡ stamp → ⊥) → row_mask k (bytes 8 lo ++ bytes 8 hi) 0 8 ≡ 0
+      → dx ≡ inline_strides k (bytes 8 lo ++ bytes 8 hi) 0 8 → dy ≡ inline_spans k (bytes 8 lo ++ bytes 8 hi) 0 8 → dx < 2 ^ 19 → dy < 2 ^ 19
+      → PlainBlocks k s mark stamp full a (sums_of (x + dx) (y + dy) r (b + 1))
+  plain_next x y r b lo hi dx dy el eh w h m z ex ey hx hy =
       record {
         more = omega (arith, w.more);
         inside = omega arith;
         is_strides = omega (arith, w.is_strides, ex, words_strides k s b lo hi el eh, longer (λ i. (inline k (slot_bytes s i)).strides));
         is_spans = omega (arith, w.is_spans, ey, words_spans k s b lo hi el eh, longer (λ i. (inline k (slot_bytes s i)).spans));
-        same_row = refl;
+        same_row = w.same_row;
         strides_few = omega (arith, w.strides_few, w.more);
         spans_few = omega (arith, w.spans_few, w.more);
         plain = plain;
@@ -154,14 +153,14 @@ module _ (k : Kind) (s : Bytes) (mark : List ℕ) (stamp full : ℕ) (a : Sums) 
 
 -- ---- blocks that are not marked
 
-module _ (k : Kind) (f : ℕ) (bytes rows : Bytes) (block : ℕ) (step : Step) (v : BlockStepped k f bytes rows block step) where
-  pub stepped_next : (u : Sums) → step ≡ Next u → (u.block ≡ block + 1) × After k f bytes rows (8 * u.block) u
+module _ (k : Kind) (f : ℕ) (bytes rows : Bytes) (block : ℕ) (step : Option Sums) (v : BlockStepped k f bytes rows block step) where
+  pub stepped_next : (u : Sums) → step ≡ Some u → (u.block ≡ block + 1) × After k f bytes rows (8 * u.block) u
   stepped_next u e = go (subst (BlockStepped k f bytes rows block) e v)
     where
       go : (u.block ≡ block + 1) × After k f bytes rows (8 * (block + 1)) u → (u.block ≡ block + 1) × After k f bytes rows (8 * u.block) u
       go (q, a) = (q, subst (λ (n : ℕ). After k f bytes rows (8 * n) u) (sym q) a)
 
-  pub stepped_lack : (full : ℕ) → step ≡ Lack → block < full → complete k (window_areas f bytes rows) f (8 * full) ≡ false
+  pub stepped_lack : (full : ℕ) → step ≡ None → block < full → complete k (window_areas f bytes rows) f (8 * full) ≡ false
   stepped_lack full e h =
       all_more (λ i. has (lookup_at k (window_areas f bytes rows) i)) f (8 * (block + 1)) (8 * full) (subst (BlockStepped k f bytes rows block) e v) (omega arith)
 
@@ -187,23 +186,6 @@ module _ (k : Kind) (f : ℕ) (bytes rows : Bytes) (mark : List ℕ) (stamp full
         unmarked = λ i g l e. omega arith;
       }
 
-  -- blocks that need none before them
-  pub blocks_join : (s t r : Sums) → PlainBlocks k bytes mark stamp full s t → BlocksAfter k f bytes rows mark stamp t.block full r → BlocksAfter k f bytes rows mark stamp s.block full r
-  blocks_join s t r p w =
-      record {
-        more = omega (arith, p.more, w.more);
-        inside = w.inside;
-        after = w.after;
-        unmarked = unmarked;
-      }
-    where
-      unmarked : Unmarked mark stamp s.block r.block
-      unmarked i g l e = go (dec_le t.block i)
-        where
-          go : Dec (t.block ≤ i) → ⊥
-          go (yes d) = w.unmarked i d l e
-          go (no d) = p.unmarked i g (omega arith) e
-
   -- one block by its rows, then some that need none
   pub blocks_next : (block : ℕ) (t u r : Sums) → full ≤ 128 → BlocksAfter k f bytes rows mark stamp block full t → (get_or mark t.block 0 ≡ stamp → ⊥)
       → (u.block ≡ t.block + 1) × After k f bytes rows (8 * u.block) u → PlainBlocks k bytes mark stamp full u r → BlocksAfter k f bytes rows mark stamp block full r
@@ -226,28 +208,19 @@ module _ (k : Kind) (f : ℕ) (bytes rows : Bytes) (mark : List ℕ) (stamp full
 
 -- ---- rows put in place of bytes
 
--- a paired record's bytes
-pub pair_bytes : (s : Bytes) (j : ℕ) → ((inline Paired (slot_bytes s j)).strides ≡ byte (2 * j) s) × ((inline Paired (slot_bytes s j)).spans ≡ byte (2 * j + 1) s)
-unfolding inline
-pair_bytes s j = (refl, refl)
-
 -- a single record that needs a row has no byte but 0
-pub single_empty : (s : Bytes) (j : ℕ) → needs_row Single (slot_bytes s j) ≡ true → ((inline Single (slot_bytes s j)).strides ≡ 0) × ((inline Single (slot_bytes s j)).spans ≡ 0)
+pub single_empty : (s : Bytes) (j : ℕ) → needs_row Single (slot_bytes s j) ≡ true → record { strides = 0; spans = 0 } ≡ inline Single (slot_bytes s j)
 unfolding inline needs_row
 single_empty s j e =
     let x : byte (2 * j) s ≡ 0 = eqb-true (byte (2 * j) s) 0 (both_left (eqb (byte (2 * j) s) 0) (eqb (byte (2 * j + 1) s) 0) e) in
     let y : byte (2 * j + 1) s ≡ 0 = eqb-true (byte (2 * j + 1) s) 0 (both_right (eqb (byte (2 * j) s) 0) (eqb (byte (2 * j + 1) s) 0) e) in
-    (omega arith, refl)
-
-pub single_spans : (v : Value) (r : Bytes) → v ≡ row_value Single r → v.spans ≡ 0
-unfolding row_value
-single_spans v r e = ap (λ (u : Value). u.spans) e
+    rw (x, y) refl
 
 module _ (k : Kind) (f : ℕ) (s rows : Bytes) where
-  pub swap_begin : (a : Sums) (b n lo hi dx dy y left : ℕ) → bytes 8 lo ≡ take 8 (drop (16 * b) s) → bytes 8 hi ≡ take 8 (drop (16 * b + 8) s) → After k f s rows (8 * b) a
-      → dx ≡ inline_strides k (bytes 8 lo ++ bytes 8 hi) 0 8 → dy ≡ inline_spans k (bytes 8 lo ++ bytes 8 hi) 0 8 → dx < 2 ^ 19 → dy < 2 ^ 19 → y ≡ a.spans + dy
-      → left ≡ row_mask k (bytes 8 lo ++ bytes 8 hi) 0 8 → n ≡ 8 → Swapping k f s rows (8 * b) n (a.strides + dx) y a.row left
-  swap_begin a b n lo hi dx dy y left el eh w ex ey hx hy e' m en =
+  pub swap_begin : (a : Sums) (b n lo hi dx dy left : ℕ) → bytes 8 lo ≡ take 8 (drop (16 * b) s) → bytes 8 hi ≡ take 8 (drop (16 * b + 8) s) → After k f s rows (8 * b) a
+      → dx ≡ inline_strides k (bytes 8 lo ++ bytes 8 hi) 0 8 → dy ≡ inline_spans k (bytes 8 lo ++ bytes 8 hi) 0 8 → dx < 2 ^ 19 → dy < 2 ^ 19
+      → left ≡ row_mask k (bytes 8 lo ++ bytes 8 hi) 0 8 → n ≡ 8 → Swapping k f s rows (8 * b) n (a.strides + dx) (a.spans + dy) a.row left
+  swap_begin a b n lo hi dx dy left el eh w ex ey hx hy m en =
       let p : dx ≡ inline_strides k s (8 * b) n = ex ∙ words_strides k s b lo hi el eh ∙ ap (λ (t : ℕ). inline_strides k s (8 * b) t) (sym en) in
       let q : dy ≡ inline_spans k s (8 * b) n = ey ∙ words_spans k s b lo hi el eh ∙ ap (λ (t : ℕ). inline_spans k s (8 * b) t) (sym en) in
       record {
@@ -255,7 +228,7 @@ module _ (k : Kind) (f : ℕ) (s rows : Bytes) where
         spans = a.spans;
         after = after_at k f s rows (8 * b) 0 a w;
         is_strides = ap (λ (t : ℕ). a.strides + t) p;
-        is_spans = e' ∙ ap (λ (t : ℕ). a.spans + t) q;
+        is_spans = ap (λ (t : ℕ). a.spans + t) q;
         strides_few = omega arith;
         spans_few = omega arith;
         is_left = m ∙ words_mask k s b lo hi el eh ∙ ap (λ (t : ℕ). row_mask k s (8 * b) t) (sym en);
@@ -302,40 +275,33 @@ module _ (k : Kind) (f : ℕ) (s rows : Bytes) where
     swap_asks past id e h rise = (before_less k rows (f + 1024) id past (omega (arith, first.0)) rise, λ i l. omega (arith, at.passed i l))
 
     -- the sums hold its bytes, and are small
-    pub swap_holds : ((inline k (slot_bytes s (j + z))).strides ≤ x) × ((inline k (slot_bytes s (j + z))).spans ≤ y)
-    swap_holds = (omega (arith, w.is_strides, strides_parts), omega (arith, w.is_spans, spans_parts))
+    pub swap_holds : (old : Value) → old ≡ inline k (slot_bytes s (j + z)) → (old.strides ≤ x) × (old.spans ≤ y)
+    swap_holds old e =
+        let p : old.strides ≡ (inline k (slot_bytes s (j + z))).strides = ap (λ (u : Value). u.strides) e in
+        let q : old.spans ≡ (inline k (slot_bytes s (j + z))).spans = ap (λ (u : Value). u.spans) e in
+        (omega (arith, w.is_strides, strides_parts), omega (arith, w.is_spans, spans_parts))
 
-    pub swap_small : j ≤ 1024 → (x < 2 ^ 44) × (y < 2 ^ 44)
-    swap_small l = (omega (arith, w.is_strides, w.strides_few, w.after.strides_low), omega (arith, w.is_spans, w.spans_few, w.after.spans_low))
-
-    module _ (past id r : ℕ) (ei : id ≡ f + suc (j + z)) (found : FoundRow k rows past id r) where
-      pub swap_lack : (m : ℕ) → r ≡ past → j + n ≤ m → complete k (window_areas f s rows) f m ≡ false
-      swap_lack m e l =
-          all_more (λ i. has (lookup_at k (window_areas f s rows) i)) f (j + z + 1) m (lacks_row k f s rows (j + z) id first.2 ei (found.missing e))
+    module _ (past id : ℕ) (ei : id ≡ f + suc (j + z)) where
+      pub swap_lack : (m : ℕ) → FoundRow k rows past id None → j + n ≤ m → complete k (window_areas f s rows) f m ≡ false
+      swap_lack m missing l =
+          all_more (λ i. has (lookup_at k (window_areas f s rows) i)) f (j + z + 1) m (lacks_row k f s rows (j + z) id first.2 ei missing)
           (omega (arith, first.0))
 
       -- its row's values in place of its bytes
-      pub swap_next : (v : Value) (x' y' left' j' n' : ℕ) → r < past → v ≡ row_value k (get_or (row_list k rows) r []) → v.strides < 2 ^ 32 → v.spans < 2 ^ 32
-          → x' + (inline k (slot_bytes s (j + z))).strides ≡ x + v.strides → y' + (inline k (slot_bytes s (j + z))).spans ≡ y + v.spans
+      pub swap_next : (r : ℕ) (old v : Value) (x' y' left' j' n' : ℕ) → FoundRow k rows past id (Some r) → old ≡ inline k (slot_bytes s (j + z)) → v ≡ row_value k (get_or (row_list k rows) r []) → v.strides < 2 ^ 32 → v.spans < 2 ^ 32
+          → x' ≡ x - old.strides + v.strides → y' ≡ y - old.spans + v.spans
           → left' ≡ left / 2 ^ (z + 1) → j' ≡ j + z + 1 → n' ≡ n - z - 1 → Swapping k f s rows j' n' x' y' (r + 1) left'
-      swap_next v x' y' left' j' n' l ev hs hp ex ey el ej en =
+      swap_next r old v x' y' left' j' n' found eo ev hs hp ex ey el ej en =
+          let p : old.strides ≡ (inline k (slot_bytes s (j + z))).strides = ap (λ (u : Value). u.strides) eo in
+          let q : old.spans ≡ (inline k (slot_bytes s (j + z))).spans = ap (λ (u : Value). u.spans) eo in
           rw (ej, en)
           (record {
             strides = w.strides + inline_strides k s j z + v.strides;
             spans = w.spans + inline_spans k s j z + v.spans;
-            after = step_row k f s rows (j + z) id first.2 ei r _ v at (found.there l) ev hs hp;
+            after = step_row k f s rows (j + z) id first.2 ei r _ v at found.1 ev hs hp;
             is_strides = omega (arith, w.is_strides, strides_parts);
             is_spans = omega (arith, w.is_spans, spans_parts);
             strides_few = omega (arith, w.strides_few, strides_parts);
             spans_few = omega (arith, w.spans_few, spans_parts);
             is_left = el ∙ ap (λ (t : ℕ). t / 2 ^ (z + 1)) w.is_left ∙ first.3;
           })
-
--- ---- by kind
-
-pub kind_ready : (k k' : Kind) (f : ℕ) (bytes rows : Bytes) (past full : ℕ) (s : Sums) → k ≡ k' → BlockReady k f bytes rows past full s → BlockReady k' f bytes rows past full s
-kind_ready k k' f bytes rows past full s e w = subst (λ (i : Kind). BlockReady i f bytes rows past full s) e w
-
-pub kind_passed : (k k' : Kind) (f : ℕ) (bytes rows : Bytes) (mark : List ℕ) (stamp block full : ℕ) (r : Step) → k ≡ k' → BlocksPassed k' f bytes rows mark stamp block full r
-    → BlocksPassed k f bytes rows mark stamp block full r
-kind_passed k k' f bytes rows mark stamp block full r e w = subst (λ (i : Kind). BlocksPassed i f bytes rows mark stamp block full r) (sym e) w

@@ -1,9 +1,10 @@
 -- The rows of a planned window: between its two places stand the rows whose numbers lie in it, and no others.
 -- The width is any; rows ascend throughout.
 use Prim.Native.Nat.{ℕ, zero, suc, ◌+◌, ◌-◌, ◌*◌, ◌≤◌, ◌<◌, min}
-use mathlib.Core.Path.{◌≡◌, refl, sym, ap, ◌∙◌}
+use mathlib.Core.Path.{◌≡◌, sym, ap, ◌∙◌, subst}
 use mathlib.Core.Logic.{◌⊎◌, inl, inr}
-use mathlib.Core.Bool.{Bool, true, false, cond}
+use mathlib.Core.Bool.{true, false}
+use mir.Val.{bool_byte}
 use mathlib.Core.List.{List}
 use native.Mathlib.Nat.{add-zero}
 use native.Mathlib.Decide.{dec_le}
@@ -54,26 +55,23 @@ module _ (width : ℕ) (xs : Bytes) (a : ascending 0 (published width xs) ≡ tr
       before e (yes g) = absurd (omega (arith, end.above i g h))
       before e (no g) = omega arith
 
-pub planned_is : (rs : List Bytes) (f m first past : ℕ) → first ≡ rows_up_to f rs → past ≡ rows_up_to (f + 1024) rs → record { base = f; m = m; first = first; past = past } ≡ planned rs f m
-planned_is rs f m first past ef ep = rw (ef, ep) refl
-
 -- ---- the search for both places
 
 module _ (rs : List Bytes) (a : ascending 0 rs ≡ true) where
   -- 1 counts a row with a number up to n
-  pub counts : (n i v r : ℕ) → i < length rs → v ≡ number_in rs i → r ≡ cond (leb v n) 1 0 → Counts (rows_up_to n rs) i r
+  pub counts : (n i v r : ℕ) → i < length rs → v ≡ number_in rs i → r ≡ bool_byte (leb v n) → Counts (rows_up_to n rs) i r
   counts n i v r h ev er = go (is? (leb v n))
     where
       parts : Parts n rs (rows_up_to n rs)
       parts = up_to_parts n 0 rs a
 
       go : (leb v n ≡ true) ⊎ (leb v n ≡ false) → Counts (rows_up_to n rs) i r
-      go (inl t) = inl (er ∙ ap (λ (b : Bool). cond b 1 0) t, before (dec_le (rows_up_to n rs) i))
+      go (inl t) = inl (er ∙ ap bool_byte t, before (dec_le (rows_up_to n rs) i))
         where
           before : Dec (rows_up_to n rs ≤ i) → i < rows_up_to n rs
           before (yes g) = absurd (omega (arith, parts.above i g h, leb-true v n t))
           before (no g) = omega arith
-      go (inr t) = inr (er ∙ ap (λ (b : Bool). cond b 1 0) t, after (dec_le (rows_up_to n rs) i))
+      go (inr t) = inr (er ∙ ap bool_byte t, after (dec_le (rows_up_to n rs) i))
         where
           after : Dec (rows_up_to n rs ≤ i) → rows_up_to n rs ≤ i
           after (yes g) = g
@@ -131,9 +129,9 @@ module _ (k : Kind) (rows : Bytes) (f : ℕ) where
   nearing_next first past left first' past' left' n wf wp hf hp =
       record { ascend = n.ascend; first_in = omega (arith, n.first_in); past_in = omega (arith, n.past_in); first_near = wf; past_near = wp }
 
-  -- and ends
-  pub nearing_ends : (first past left m : ℕ) → Nearing k rows f first past left → left ≡ 0 → record { base = f; m = m; first = first; past = past } ≡ planned (row_list k rows) f m
-  nearing_ends first past left m n z = planned_is (row_list k rows) f m first past (omega (arith, n.first_near.low, n.first_near.high)) (omega (arith, n.past_near.low, n.past_near.high))
+  -- the same, with another name for how many rows are left
+  pub nearing_at : (first past left left' : ℕ) → left ≡ left' → Nearing k rows f first past left → Nearing k rows f first past left'
+  nearing_at first past left left' e n = subst (λ (i : ℕ). Nearing k rows f first past i) e n
 
 -- ---- what the sums of a window ask of its plan
 

@@ -1,36 +1,27 @@
 -- Rows where they stand, by their place: number and value as they are read, and the row that is numbered id.
 -- Rows ascend throughout, so that no row after a larger number has it.
-use Prim.Native.Nat.{ℕ, suc, ◌+◌, ◌-◌, ◌*◌, ◌^◌, ◌≤◌, ◌<◌}
+use Prim.Native.Nat.{ℕ, ◌+◌, ◌-◌, ◌*◌, ◌^◌, ◌≤◌, ◌<◌}
 use mathlib.Core.Path.{◌≡◌, refl, sym, ap, ◌∙◌}
 use mathlib.Core.Logic.{⊎_elim}
 use mathlib.Core.List.{List, []}
 use native.Mathlib.Nat.{eq-or-lt_of_le}
-use native.Mathlib.Numerals.{add-one}
 use native.Mathlib.Decide.{dec_le}
 use native.Mathlib.Omega.{arith}
+use Rattle.std.specs.Prelude.{Some, None}
 use lib.ListN.{length, take, drop, get_or}
 use lib.Seq.{drop-drop}
 use Rattle.loc_leaf.specs.declared.Kind.{Kind}
 use Rattle.loc_leaf.specs.declared.Kind.TheVariants.{Paired, Single}
-use Rattle.loc_leaf.specs.Bytes.{Bytes, byte, number, bytes, number_at}
+use Rattle.loc_leaf.specs.Bytes.{Bytes, number, bytes, number_at}
 use Rattle.loc_leaf.specs.Area.{fill}
 use Rattle.loc_leaf.specs.Kind.{row_width}
 use Rattle.loc_leaf.specs.Rows.{row_list, row_value, number_in}
-use Rattle.loc_leaf.proofs.NumberLaws.{spelled}
 use Rattle.loc_leaf.proofs.Stored.{number_bytes}
 use Rattle.loc_leaf.proofs.AreaLaws.{pieces_get}
 use Rattle.loc_leaf.proofs.RowLaws.{rising, rows_are, rows_count, rows_room, row_room, number_there, piece_value, lookup_none, lookup_at_lem}
 use Rattle.loc_window.specs.Window.{Passed, Below, RowsBefore, FoundRow}
 
 -- ---- fields as they are read
-
-next : (n i j : ℕ) (xs : Bytes) → i + 1 ≡ j → number (take (suc n) (drop i xs)) ≡ byte i xs + 256 * number (take n (drop j xs))
-next n i j xs e = spelled n i xs ∙ ap (λ (m : ℕ). byte i xs + 256 * number (take n (drop m xs))) (sym (add-one i) ∙ e)
-
--- the number that four bytes spell
-pub half_read : (xs : Bytes) (at r : ℕ) → r ≡ byte at xs + byte (at + 1) xs * 0x100 + byte (at + 2) xs * 0x1_0000 + byte (at + 3) xs * 0x100_0000 → r ≡ number_at 4 at xs
-unfolding number_at number
-half_read xs at r e = omega (arith, next 3 at (at + 1) xs refl, next 2 (at + 1) (at + 2) xs (omega arith), next 1 (at + 2) (at + 3) xs (omega arith), next 0 (at + 3) (at + 4) xs (omega arith))
 
 -- a word is the number that its bytes spell
 word_read : (xs : Bytes) (at r : ℕ) → r < 2 ^ 64 → bytes 8 r ≡ take 8 (drop at xs) → r ≡ number_at 8 at xs
@@ -83,13 +74,8 @@ before_less k rows top id past h r = record { ascend = r.ascend; inside = r.insi
 
 module _ (k : Kind) (xs : Bytes) (past id : ℕ) (r : RowsBefore k xs id past) where
   -- the row at a place before `past` is numbered id
-  pub found_row : (i v : ℕ) → i < past → v ≡ number_in (row_list k xs) i → v ≡ id → FoundRow k xs past id i
-  found_row i v h ev e =
-      record {
-        inside = omega arith;
-        there = λ _. record { is_found = lookup_at_lem k (row_list k xs) id i r.ascend there (sym ev ∙ e); passed = passed };
-        missing = λ q. absurd (omega arith);
-      }
+  pub found_row : (i v : ℕ) → i < past → v ≡ number_in (row_list k xs) i → v ≡ id → FoundRow k xs past id (Some i)
+  found_row i v h ev e = (h, record { is_found = lookup_at_lem k (row_list k xs) id i r.ascend there (sym ev ∙ e); passed = passed })
     where
       there : i < length (row_list k xs)
       there = omega (arith, rows_count k xs, r.inside)
@@ -98,8 +84,8 @@ module _ (k : Kind) (xs : Bytes) (past id : ℕ) (r : RowsBefore k xs id past) w
       passed j g = ⊎_elim (λ (w : j ≡ i). rw w (omega arith)) (λ (s : j < i). omega (arith, rising 0 (row_list k xs) r.ascend j i s there)) (eq-or-lt_of_le (omega arith))
 
   -- the rows before a place are numbered below id, and those from there on above it
-  none_there : (i : ℕ) → Below (row_list k xs) i id → ((j : ℕ) → i ≤ j → j < length (row_list k xs) → id < number_in (row_list k xs) j) → FoundRow k xs past id past
-  none_there i below above = record { inside = omega arith; there = λ g. absurd (omega arith); missing = λ _. lookup_none k (row_list k xs) id differs }
+  none_there : (i : ℕ) → Below (row_list k xs) i id → ((j : ℕ) → i ≤ j → j < length (row_list k xs) → id < number_in (row_list k xs) j) → FoundRow k xs past id None
+  none_there i below above = lookup_none k (row_list k xs) id differs
     where
       differs : (j : ℕ) → j < length (row_list k xs) → number_in (row_list k xs) j ≡ id → ⊥
       differs j h e = go (dec_le i j)
@@ -113,11 +99,11 @@ module _ (k : Kind) (xs : Bytes) (past id : ℕ) (r : RowsBefore k xs id past) w
     pub below_more : (v : ℕ) → v ≡ number_in (row_list k xs) i → (v ≡ id → ⊥) → v ≤ id → Below (row_list k xs) (i + 1) id
     below_more v ev other up j g = ⊎_elim (λ (w : j ≡ i). rw w (omega arith)) (λ (s : j < i). below j s) (eq-or-lt_of_le (omega arith))
 
-    pub none_above : (v : ℕ) → v ≡ number_in (row_list k xs) i → id < v → FoundRow k xs past id past
+    pub none_above : (v : ℕ) → v ≡ number_in (row_list k xs) i → id < v → FoundRow k xs past id None
     none_above v ev l = none_there i below above
       where
         above : (j : ℕ) → i ≤ j → j < length (row_list k xs) → id < number_in (row_list k xs) j
         above j g h = ⊎_elim (λ (w : i ≡ j). rw (← w) (omega arith)) (λ (s : i < j). omega (arith, rising 0 (row_list k xs) r.ascend i j s h)) (eq-or-lt_of_le g)
 
-    pub none_past : past ≤ i → FoundRow k xs past id past
+    pub none_past : past ≤ i → FoundRow k xs past id None
     none_past l = none_there i below (λ j g h. r.above j (omega arith) h)

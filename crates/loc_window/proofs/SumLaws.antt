@@ -1,5 +1,6 @@
 -- The sums of a window, one record more at a time.
 -- A record's value is what the copy's two bytes and the rows say.
+use Rattle.std.specs.Prelude.{Some, None}
 use Prim.Native.Nat.{ℕ, zero, suc, ◌+◌, ◌-◌, ◌*◌, ◌^◌, ◌≤◌, ◌<◌}
 use mathlib.Core.Path.{◌≡◌, refl, sym, ap, ◌∙◌, subst}
 use mathlib.Core.Logic.{⊎_elim}
@@ -13,7 +14,6 @@ use lib.Seq.{get_or-take, get_or-drop, get_or-append-add, get_or-set_same, get_o
 use Rattle.loc_leaf.specs.declared.Kind.{Kind}
 use Rattle.loc_leaf.specs.declared.Kind.TheVariants.{Paired, Single}
 use Rattle.loc_leaf.specs.declared.Value.{Value}
-use Rattle.loc_leaf.specs.declared.delta_loc.Lookup.TheVariants.{Found, Missing}
 use Rattle.loc_leaf.specs.Bytes.{Bytes, byte}
 use Rattle.loc_leaf.specs.Slot.{needs_row, inline, slot_at}
 use Rattle.loc_leaf.specs.Rows.{row_list, row_value, lookup, slot_value, value_in}
@@ -63,20 +63,20 @@ module _ (k : Kind) (f : ℕ) (bytes rows : Bytes) where
       slot_two k (row_list k rows) (f + suc j) (slot_at (replicate (16 + 2 * f) 0 ++ bytes) (f + suc j)) (byte (2 * j) bytes) (byte (2 * j + 1) bytes)
       (slot_byte j 0 (omega arith) ∙ ap (λ (n : ℕ). byte n bytes) (add-zero (2 * j))) (slot_byte j 1 (omega arith))
 
-  lookup_inline : (j : ℕ) → needs_row k (slot_bytes bytes j) ≡ false → lookup_at k (window_areas f bytes rows) (f + suc j) ≡ Found (inline k (slot_bytes bytes j))
+  lookup_inline : (j : ℕ) → needs_row k (slot_bytes bytes j) ≡ false → lookup_at k (window_areas f bytes rows) (f + suc j) ≡ Some (inline k (slot_bytes bytes j))
   unfolding slot_value
-  lookup_inline j e = lookup_is j ∙ ap (λ (b : Bool). cond b (lookup k (f + suc j) (row_list k rows)) (Found (inline k (slot_bytes bytes j)))) e
+  lookup_inline j e = lookup_is j ∙ ap (λ (b : Bool). cond b (lookup k (f + suc j) (row_list k rows)) (Some (inline k (slot_bytes bytes j)))) e
 
   lookup_row : (j : ℕ) → needs_row k (slot_bytes bytes j) ≡ true → lookup_at k (window_areas f bytes rows) (f + suc j) ≡ lookup k (f + suc j) (row_list k rows)
   unfolding slot_value
-  lookup_row j e = lookup_is j ∙ ap (λ (b : Bool). cond b (lookup k (f + suc j) (row_list k rows)) (Found (inline k (slot_bytes bytes j)))) e
+  lookup_row j e = lookup_is j ∙ ap (λ (b : Bool). cond b (lookup k (f + suc j) (row_list k rows)) (Some (inline k (slot_bytes bytes j)))) e
 
   -- ---- one record more
 
   pub passed_more : (p id id' : ℕ) → id ≤ id' → Passed (row_list k rows) p id → Passed (row_list k rows) p id'
   passed_more p id id' h w i l = omega (arith, w i l)
 
-  after_next : (n : ℕ) (s : Sums) (v : Value) (row : ℕ) → After k f bytes rows n s → lookup_at k (window_areas f bytes rows) (f + suc n) ≡ Found v
+  after_next : (n : ℕ) (s : Sums) (v : Value) (row : ℕ) → After k f bytes rows n s → lookup_at k (window_areas f bytes rows) (f + suc n) ≡ Some v
       → v.strides < 2 ^ 32 → v.spans < 2 ^ 32 → Passed (row_list k rows) row (f + (n + 1)) → After k f bytes rows (n + 1) (plus_value s v row)
   unfolding strides_after spans_after sum_after value_at value_in has
   after_next n s v row w e hs hp p =
@@ -89,7 +89,7 @@ module _ (k : Kind) (f : ℕ) (bytes rows : Bytes) where
         passed = p;
       }
 
-  lack_next : (n : ℕ) → lookup_at k (window_areas f bytes rows) (f + suc n) ≡ Missing → complete k (window_areas f bytes rows) f (n + 1) ≡ false
+  lack_next : (n : ℕ) → lookup_at k (window_areas f bytes rows) (f + suc n) ≡ None → complete k (window_areas f bytes rows) f (n + 1) ≡ false
   unfolding has
   lack_next n e = all_next (λ i. has (lookup_at k (window_areas f bytes rows) i)) f n false (ap has e) ∙ and-false (complete k (window_areas f bytes rows) f n)
 
@@ -105,16 +105,12 @@ module _ (k : Kind) (f : ℕ) (bytes rows : Bytes) where
         passed = w.passed;
       }
 
-  -- the sums are small
-  pub after_small : (n : ℕ) (s : Sums) → n ≤ 1024 → After k f bytes rows n s → (s.strides < 2 ^ 43) × (s.spans < 2 ^ 43)
-  after_small n s h w = (omega (arith, w.strides_low), omega (arith, w.spans_low))
-
   -- a record that needs no row
   pub step_inline : (n : ℕ) (s t : Sums) (v : Value) (plain : needs_row k (slot_bytes bytes n) ≡ false) → After k f bytes rows n s → v ≡ inline k (slot_bytes bytes n)
       → t ≡ plus_value s v s.row → v.strides < 2 ^ 32 → v.spans < 2 ^ 32 → After k f bytes rows (n + 1) t
   step_inline n s t v plain w ev et hs hp =
       rw et
-      (after_next n s v s.row w (lookup_inline n plain ∙ ap (λ (u : Value). Found u) (sym ev)) hs hp
+      (after_next n s v s.row w (lookup_inline n plain ∙ ap (λ (u : Value). Some u) (sym ev)) hs hp
       (passed_more s.row (f + n) (f + (n + 1)) (omega arith) w.passed))
 
   -- a record by its row, which is row r
@@ -126,9 +122,9 @@ module _ (k : Kind) (f : ℕ) (bytes rows : Bytes) where
         → After k f bytes rows (n + 1) (plus_value s v (r + 1))
     step_row r s v w g ev hs hp =
         let q : id ≤ f + (n + 1) = omega arith in
-        after_next n s v (r + 1) w (by_row ∙ g.is_found ∙ ap (λ (u : Value). Found u) (sym ev)) hs hp (passed_more (r + 1) id (f + (n + 1)) q g.passed)
+        after_next n s v (r + 1) w (by_row ∙ g.is_found ∙ ap (λ (u : Value). Some u) (sym ev)) hs hp (passed_more (r + 1) id (f + (n + 1)) q g.passed)
 
-    pub lacks_row : lookup k id (row_list k rows) ≡ Missing → complete k (window_areas f bytes rows) f (n + 1) ≡ false
+    pub lacks_row : lookup k id (row_list k rows) ≡ None → complete k (window_areas f bytes rows) f (n + 1) ≡ false
     lacks_row m = lack_next n (by_row ∙ m)
 
 -- ---- sums that are stored
@@ -167,18 +163,6 @@ module _ (k : Kind) (f : ℕ) (bytes rows : Bytes) where
         body_kept = λ j h. refl;
         span_kept = λ j h. refl;
         right = λ j h g. let e : n ≡ j = omega arith in subst (λ (i : ℕ). Right k f bytes rows i (set body n s.strides) (set span n s.spans)) e (stored n s body span w hb hs);
-      }
-
-  -- seen from before the first store
-  pub written_whole : (from n x y : ℕ) (body span body' span' : List ℕ) → Written k f bytes rows from n (set body from x) (set span from y) body' span'
-      → Written k f bytes rows from n body span body' span'
-  written_whole from n x y body span body' span' w =
-      record {
-        body_long = w.body_long ∙ length-set body from x;
-        span_long = w.span_long ∙ length-set span from y;
-        body_kept = λ j h. w.body_kept j h ∙ get_or-set_other body from j x 0 (λ e. omega arith);
-        span_kept = λ j h. w.span_kept j h ∙ get_or-set_other span from j y 0 (λ e. omega arith);
-        right = w.right;
       }
 
   pub written_next : (from n : ℕ) (s : Sums) (body₀ span₀ body span : List ℕ) → from ≤ n → Written k f bytes rows from n body₀ span₀ body span

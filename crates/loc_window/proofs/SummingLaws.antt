@@ -10,8 +10,7 @@ use Rattle.loc_leaf.specs.declared.Kind.{Kind}
 use Rattle.loc_leaf.specs.Bytes.{Bytes}
 use Rattle.loc_leaf.specs.Rows.{row_list}
 use Rattle.loc_window.specs.declared.Sums.{Sums}
-use Rattle.loc_window.specs.declared.Step.{Step}
-use Rattle.loc_window.specs.declared.Step.TheVariants.{Next, Lack}
+use Rattle.std.specs.Prelude.{Option, Some, None}
 use Rattle.loc_window.specs.Window.{window_areas, complete, Passed, RowsBefore, After, sums_of, Ready, SumsStored, SlotStepped, Summing, WindowSummed}
 use Rattle.loc_window.proofs.SumLaws.{after_at}
 use Rattle.loc_window.proofs.StepLaws.{slot_next, slot_lack}
@@ -57,10 +56,10 @@ module _ (k : Kind) (long f m : ℕ) (bytes rows : Bytes) (past : ℕ) (mark : L
         whole = omega arith
 
     -- blocks grow
-    pub summing_more : (r : Step) (t : Sums) (body' span' : List ℕ) → SlotStepped k f bytes rows mark stamp block m body' span' r → r ≡ Next t → (block < t.block) × (8 * t.block < m + 8)
+    pub summing_more : (r : Option Sums) (t : Sums) (body' span' : List ℕ) → SlotStepped k f bytes rows mark stamp block m body' span' r → r ≡ Some t → (block < t.block) × (8 * t.block < m + 8)
     summing_more r t body' span' v e = let n = slot_next k f bytes rows mark stamp block m body' span' r v t e in (n.0, n.1)
 
-    pub summing_next : (r : Step) (t : Sums) (body' span' : List ℕ) → SlotStepped k f bytes rows mark stamp block m body' span' r → r ≡ Next t
+    pub summing_next : (r : Option Sums) (t : Sums) (body' span' : List ℕ) → SlotStepped k f bytes rows mark stamp block m body' span' r → r ≡ Some t
         → length body' ≡ length body → length span' ≡ length span
         → Summing k long f m bytes rows past mark stamp t.block (sums_of t.strides t.spans t.row t.block) body' span'
     summing_next r t body' span' v e e₁ e₂ =
@@ -96,23 +95,23 @@ module _ (k : Kind) (long f m : ℕ) (bytes rows : Bytes) (past : ℕ) (mark : L
       pub summed_stored : SumsStored k f bytes rows mark stamp m body span
       summed_stored = subst (λ (i : ℕ). SumsStored k f bytes rows mark stamp i body span) all w.stored
 
-      pub summed_all : WindowSummed k f bytes rows mark stamp m body span (Next s)
+      pub summed_all : WindowSummed k f bytes rows mark stamp m body span (Some s)
       unfolding WindowSummed
       summed_all = (subst (λ (i : ℕ). After k f bytes rows i s) all w.ready.after, summed_stored)
 
 -- ---- by what is returned
 
 -- a step finds that a record lacks its row
-pub summed_lack : (k : Kind) (f m : ℕ) (bytes rows : Bytes) (mark : List ℕ) (stamp block : ℕ) (body span : List ℕ) (r : Step) → SlotStepped k f bytes rows mark stamp block m body span r → r ≡ Lack
-    → WindowSummed k f bytes rows mark stamp m body span Lack
+pub summed_lack : (k : Kind) (f m : ℕ) (bytes rows : Bytes) (mark : List ℕ) (stamp block : ℕ) (body span : List ℕ) (r : Option Sums) → SlotStepped k f bytes rows mark stamp block m body span r → r ≡ None
+    → WindowSummed k f bytes rows mark stamp m body span None
 unfolding WindowSummed
 summed_lack k f m bytes rows mark stamp block body span r v e = slot_lack k f bytes rows mark stamp block m body span r v e
 
-module _ (k : Kind) (f m : ℕ) (bytes rows : Bytes) (mark : List ℕ) (stamp : ℕ) (body span : List ℕ) (r : Step) (v : WindowSummed k f bytes rows mark stamp m body span r) where
-  pub window_next : (s : Sums) → r ≡ Next s → After k f bytes rows m s × SumsStored k f bytes rows mark stamp m body span
+module _ (k : Kind) (f m : ℕ) (bytes rows : Bytes) (mark : List ℕ) (stamp : ℕ) (body span : List ℕ) (r : Option Sums) (v : WindowSummed k f bytes rows mark stamp m body span r) where
+  pub window_next : (s : Sums) → r ≡ Some s → After k f bytes rows m s × SumsStored k f bytes rows mark stamp m body span
   unfolding WindowSummed
   window_next s e = subst (WindowSummed k f bytes rows mark stamp m body span) e v
 
-  pub window_lack : r ≡ Lack → complete k (window_areas f bytes rows) f m ≡ false
+  pub window_lack : r ≡ None → complete k (window_areas f bytes rows) f m ≡ false
   unfolding WindowSummed
   window_lack e = subst (WindowSummed k f bytes rows mark stamp m body span) e v

@@ -1,5 +1,7 @@
 -- For callers: where a walk over a window begins, and what its sums and its missing rows are in the areas themselves.
 -- The copy holds the slots of the m records that follow record f.
+use Rattle.loc_leaf.specs.declared.Value.{Value}
+use Rattle.std.specs.Prelude.{Option}
 use Prim.Native.Nat.{ℕ, zero, suc, ◌+◌, ◌-◌, ◌*◌, ◌≤◌, ◌<◌}
 use mathlib.Core.Path.{◌≡◌, refl, sym, ap, ◌∙◌}
 use mathlib.Core.Bool.{Bool, ◌&&◌}
@@ -9,7 +11,6 @@ use native.Mathlib.Omega.{arith}
 use lib.ListN.{get_or, take, drop}
 use lib.Seq.{get_or-take, get_or-drop}
 use Rattle.loc_leaf.specs.declared.Kind.{Kind}
-use Rattle.loc_leaf.specs.declared.delta_loc.Lookup.{Lookup}
 use Rattle.loc_leaf.specs.Bytes.{Bytes, byte}
 use Rattle.loc_leaf.specs.Slot.{slot_at}
 use Rattle.loc_leaf.specs.Rows.{row_list, value_in}
@@ -79,12 +80,12 @@ module _ (k : Kind) (a : Areas) (f m : ℕ) (bytes old : Bytes) (w : Copied a.sl
   pub strides_same : (n : ℕ) → n ≤ m → strides_after k (window_areas f bytes a.rows) f n ≡ strides_after k a f n
   unfolding strides_after value_at
   strides_same n l =
-      sum_same (λ i. (value_at k (window_areas f bytes a.rows) i).strides) (λ i. (value_at k a i).strides) f m (λ j h. ap (λ (v : Lookup). (value_in v).strides) (lookup_same j h)) n l
+      sum_same (λ i. (value_at k (window_areas f bytes a.rows) i).strides) (λ i. (value_at k a i).strides) f m (λ j h. ap (λ (v : Option Value). (value_in v).strides) (lookup_same j h)) n l
 
   pub spans_same : (n : ℕ) → n ≤ m → spans_after k (window_areas f bytes a.rows) f n ≡ spans_after k a f n
   unfolding spans_after value_at
   spans_same n l =
-      sum_same (λ i. (value_at k (window_areas f bytes a.rows) i).spans) (λ i. (value_at k a i).spans) f m (λ j h. ap (λ (v : Lookup). (value_in v).spans) (lookup_same j h)) n l
+      sum_same (λ i. (value_at k (window_areas f bytes a.rows) i).spans) (λ i. (value_at k a i).spans) f m (λ j h. ap (λ (v : Option Value). (value_in v).spans) (lookup_same j h)) n l
 
   pub right_strides : (j : ℕ) (body span : List ℕ) → j ≤ m → Right k f bytes a.rows j body span → get_or body j 0 ≡ strides_after k a f j
   right_strides j body span l r = r.body_is ∙ strides_same j l

@@ -1,12 +1,12 @@
 -- The sums of one window: of the records that follow record f, whose slots stand in a copy.
 -- They are those of the reading (loc_calls), on areas that have the copied slots in their place.
-use Rattle.std.specs.Prelude.{ℕ, ◌+◌, ◌-◌, ◌*◌, ◌/◌, ◌^◌, ◌≤◌, ◌<◌, min, ◌≡◌, true, false, List, [], ◌++◌, length, get_or, replicate}
+use Rattle.std.specs.Prelude.{ℕ, ◌+◌, ◌-◌, ◌*◌, ◌/◌, ◌^◌, ◌≤◌, ◌<◌, min, ◌≡◌, true, false, List, [], ◌++◌, length, get_or, replicate, Bool, Option, Some, None}
 use Rattle.loc_leaf.specs.declared.Kind.{Kind}
+use Rattle.loc_leaf.specs.declared.Kind.TheVariants.{Paired, Single}
 use Rattle.loc_leaf.specs.Bytes.{Bytes, byte}
 use Rattle.loc_leaf.specs.Area.{fill}
 use Rattle.loc_leaf.specs.Kind.{row_width}
 use Rattle.loc_leaf.specs.declared.Value.{Value}
-use Rattle.loc_leaf.specs.declared.delta_loc.Lookup.TheVariants.{Found, Missing}
 use Rattle.loc_leaf.specs.Rows.{row_list, row_value, ascending, number_in, lookup}
 use Rattle.loc_calls.specs.Areas.{Areas}
 pub use Rattle.loc_calls.specs.Reading.{complete}
@@ -15,8 +15,11 @@ use Rattle.loc_leaf.specs.Slot.{needs_row}
 pub use Rattle.loc_leaf.specs.Block.{slot_bytes}
 use Rattle.loc_leaf.specs.Block.{row_mask, inline_strides, inline_spans}
 use Rattle.loc_window.specs.declared.Sums.{Sums}
-use Rattle.loc_window.specs.declared.Step.{Step}
-use Rattle.loc_window.specs.declared.Step.TheVariants.{Next, Lack}
+
+-- the kind that an instance of the code is made for
+abbrev pub kind_of : Bool → Kind
+kind_of true = Paired
+kind_of false = Single
 
 -- areas whose slots of the records that follow record f are these bytes
 unfoldable pub window_areas : ℕ → Bytes → Bytes → Areas
@@ -59,14 +62,13 @@ plus_value s v row = record { strides = s.strides + v.strides; spans = s.spans +
 
 -- row r is the one that is numbered id, and the rows up to it are passed
 pub record IsRow (k : Kind) (rows : Bytes) (id r : ℕ) : Type 0 where
-  pub is_found : lookup k id (row_list k rows) ≡ Found (row_value k (get_or (row_list k rows) r []))
+  pub is_found : lookup k id (row_list k rows) ≡ Some (row_value k (get_or (row_list k rows) r []))
   pub passed : Passed (row_list k rows) (r + 1) id
 
--- the place of the row that is numbered id, which stands before `past`, or `past` where there is none
-pub record FoundRow (k : Kind) (rows : Bytes) (past id r : ℕ) : Type 0 where
-  pub inside : r ≤ past
-  pub there : r < past → IsRow k rows id r
-  pub missing : r ≡ past → lookup k id (row_list k rows) ≡ Missing
+-- the place of the row that is numbered id, which stands before `past`; none where there is none
+abbrev pub FoundRow : Kind → Bytes → ℕ → ℕ → Option ℕ → Type 0
+FoundRow k rows past id (Some r) = (r < past) × IsRow k rows id r
+FoundRow k rows past id None = lookup k id (row_list k rows) ≡ None
 
 -- the sums of j records stand in the arrays
 pub record Right (k : Kind) (f : ℕ) (bytes rows : Bytes) (j : ℕ) (body span : List ℕ) : Type 0 where
@@ -84,10 +86,23 @@ pub record Written (k : Kind) (f : ℕ) (bytes rows : Bytes) (from n : ℕ) (bod
   pub right : (j : ℕ) → from ≤ j → j ≤ n → Right k f bytes rows j body span
 
 -- the records `from` to n one by one, counted as so many blocks, or one of them lacks its row
-abbrev pub Recorded : Kind → ℕ → Bytes → Bytes → ℕ → ℕ → ℕ → List ℕ → List ℕ → List ℕ → List ℕ → Step → Type 0
-Recorded k f bytes rows block from n body₀ span₀ body span (Next s) =
+abbrev pub Recorded : Kind → ℕ → Bytes → Bytes → ℕ → ℕ → ℕ → List ℕ → List ℕ → List ℕ → List ℕ → Option Sums → Type 0
+Recorded k f bytes rows block from n body₀ span₀ body span (Some s) =
     (s.block ≡ block) × After k f bytes rows n s × Written k f bytes rows from n body₀ span₀ body span
-Recorded k f bytes rows block from n body₀ span₀ body span Lack = complete k (window_areas f bytes rows) f n ≡ false
+Recorded k f bytes rows block from n body₀ span₀ body span None = complete k (window_areas f bytes rows) f n ≡ false
+
+-- what one record more asks
+pub record RecordReady (k : Kind) (f : ℕ) (bytes rows : Bytes) (past n : ℕ) (s : Sums) : Type 0 where
+  pub few : n < 1024
+  pub copied : 2 * n + 1 < length bytes
+  pub numbers : f + 1024 < 2 ^ 64
+  pub rise : RowsBefore k rows (f + 1024) past
+  pub after : After k f bytes rows n s
+
+-- one record more, or it lacks its row
+abbrev pub OneMore : Kind → ℕ → Bytes → Bytes → ℕ → Sums → Option Sums → Type 0
+OneMore k f bytes rows n s (Some t) = (t.block ≡ s.block) × After k f bytes rows (n + 1) t
+OneMore k f bytes rows n s None = complete k (window_areas f bytes rows) f (n + 1) ≡ false
 
 -- what a walk over the records `from` to n asks
 pub record Ready (k : Kind) (f : ℕ) (bytes rows : Bytes) (past from n : ℕ) (s : Sums) (body span : List ℕ) : Type 0 where
@@ -114,9 +129,9 @@ pub record BlockReady (k : Kind) (f : ℕ) (bytes rows : Bytes) (past full : ℕ
 -- ---- one block
 
 -- one block more, or one of its records lacks its row
-abbrev pub BlockStepped : Kind → ℕ → Bytes → Bytes → ℕ → Step → Type 0
-BlockStepped k f bytes rows block (Next t) = (t.block ≡ block + 1) × After k f bytes rows (8 * (block + 1)) t
-BlockStepped k f bytes rows block Lack = complete k (window_areas f bytes rows) f (8 * (block + 1)) ≡ false
+abbrev pub BlockStepped : Kind → ℕ → Bytes → Bytes → ℕ → Option Sums → Type 0
+BlockStepped k f bytes rows block (Some t) = (t.block ≡ block + 1) × After k f bytes rows (8 * (block + 1)) t
+BlockStepped k f bytes rows block None = complete k (window_areas f bytes rows) f (8 * (block + 1)) ≡ false
 
 -- x and y are what j records add up to, with the bytes of n records more, of which `left` says those that need a row
 pub record Swapping (k : Kind) (f : ℕ) (bytes rows : Bytes) (j n x y row left : ℕ) : Type 0 where
@@ -155,9 +170,9 @@ pub record PlainBlocks (k : Kind) (bytes : Bytes) (mark : List ℕ) (stamp full 
   pub unmarked : Unmarked mark stamp s.block r.block
 
 -- a walk over blocks that are not marked, or one of the records before `full` lacks its row
-abbrev pub BlocksPassed : Kind → ℕ → Bytes → Bytes → List ℕ → ℕ → ℕ → ℕ → Step → Type 0
-BlocksPassed k f bytes rows mark stamp block full (Next t) = BlocksAfter k f bytes rows mark stamp block full t
-BlocksPassed k f bytes rows mark stamp block full Lack = complete k (window_areas f bytes rows) f (8 * full) ≡ false
+abbrev pub BlocksPassed : Kind → ℕ → Bytes → Bytes → List ℕ → ℕ → ℕ → ℕ → Option Sums → Type 0
+BlocksPassed k f bytes rows mark stamp block full (Some t) = BlocksAfter k f bytes rows mark stamp block full t
+BlocksPassed k f bytes rows mark stamp block full None = complete k (window_areas f bytes rows) f (8 * full) ≡ false
 
 -- of the first n records, the sums before and after each one of a marked block stand in the arrays
 pub record SumsStored (k : Kind) (f : ℕ) (bytes rows : Bytes) (mark : List ℕ) (stamp n : ℕ) (body span : List ℕ) : Type 0 where
@@ -165,11 +180,11 @@ pub record SumsStored (k : Kind) (f : ℕ) (bytes rows : Bytes) (mark : List ℕ
   pub next : (j : ℕ) → j < n → get_or mark (j / 8) 0 ≡ stamp → Right k f bytes rows (j + 1) body span
 
 -- a step past some blocks, all that m records fill at most, or one of the m records lacks its row
-abbrev pub SlotStepped : Kind → ℕ → Bytes → Bytes → List ℕ → ℕ → ℕ → ℕ → List ℕ → List ℕ → Step → Type 0
-SlotStepped k f bytes rows mark stamp block m body span (Next s) =
+abbrev pub SlotStepped : Kind → ℕ → Bytes → Bytes → List ℕ → ℕ → ℕ → ℕ → List ℕ → List ℕ → Option Sums → Type 0
+SlotStepped k f bytes rows mark stamp block m body span (Some s) =
     (block < s.block) × (8 * s.block < m + 8)
     × After k f bytes rows (min (8 * s.block) m) s × SumsStored k f bytes rows mark stamp (min (8 * s.block) m) body span
-SlotStepped k f bytes rows mark stamp block m body span Lack = complete k (window_areas f bytes rows) f m ≡ false
+SlotStepped k f bytes rows mark stamp block m body span None = complete k (window_areas f bytes rows) f m ≡ false
 
 -- the blocks before a block of the window's first m records are summed, in arrays of some length
 pub record Summing (k : Kind) (long f m : ℕ) (bytes rows : Bytes) (past : ℕ) (mark : List ℕ) (stamp block : ℕ) (s : Sums) (body span : List ℕ) : Type 0 where
@@ -180,9 +195,9 @@ pub record Summing (k : Kind) (long f m : ℕ) (bytes rows : Bytes) (past : ℕ)
   pub stored : SumsStored k f bytes rows mark stamp (min (8 * block) m) body span
 
 -- the sums of the window's first m records, those of marked blocks in the arrays, or one of them lacks its row
-unfoldable pub WindowSummed : Kind → ℕ → Bytes → Bytes → List ℕ → ℕ → ℕ → List ℕ → List ℕ → Step → Type 0
-WindowSummed k f bytes rows mark stamp m body span (Next s) = After k f bytes rows m s × SumsStored k f bytes rows mark stamp m body span
-WindowSummed k f bytes rows mark stamp m body span Lack = complete k (window_areas f bytes rows) f m ≡ false
+unfoldable pub WindowSummed : Kind → ℕ → Bytes → Bytes → List ℕ → ℕ → ℕ → List ℕ → List ℕ → Option Sums → Type 0
+WindowSummed k f bytes rows mark stamp m body span (Some s) = After k f bytes rows m s × SumsStored k f bytes rows mark stamp m body span
+WindowSummed k f bytes rows mark stamp m body span None = complete k (window_areas f bytes rows) f m ≡ false
 
 -- ---- the copy
 

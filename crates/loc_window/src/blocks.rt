@@ -1,54 +1,83 @@
 // The sums of whole blocks by their words, up to a marked one.
-// Each kind has its own loops, so that no block asks which kind it is of.
-ghost use Rattle.std.specs.Prelude.{◌≡◌, ◌+◌, ◌*◌, ◌/◌, ◌^◌, ◌<◌, ◌≤◌, length};
-ghost use Rattle.loc_leaf.specs.declared.Kind.TheVariants.{Paired, Single};
-ghost use Rattle.loc_window.specs.Window.{BlockReady, BlockStepped, PlainBlocks, BlocksPassed};
+// Each kind has its own instance of the loops, so that no block asks which kind it is of.
+ghost use Rattle.std.specs.Prelude.{◌≡◌, true, ◌++◌, ◌+◌, ◌*◌, ◌/◌, ◌^◌, ◌<◌, ◌≤◌, length};
+ghost use Rattle.loc_leaf.specs.Bytes.{bytes};
+ghost use Rattle.loc_leaf.specs.Slot.{needs_row, inline};
+ghost use Rattle.loc_leaf.specs.Block.{slot_bytes, row_mask, inline_strides, inline_spans};
+ghost use Rattle.loc_window.specs.Window.{kind_of, BlockReady, BlockStepped, PlainBlocks, BlocksPassed};
 
 use crate::rows::{find_row, row_value_at, word_at};
-use crate::{Step, Sums};
-use loc_leaf::Kind;
+use crate::{LentWindow, Sums, kind_of};
 use loc_leaf::loc_simd::{
     first_total, lowest_record, none_empty, none_zero, row_mask, second_total, strides_total,
 };
+use loc_leaf::{Kind, Value};
+
+// Whether no record of the block needs a row.
+fn none_lacking<const PAIRED: bool>(lo: u64, hi: u64) -> bool
+    ensures { result ≡ true → row_mask (kind_of PAIRED) (bytes 8 lo ++ bytes 8 hi) 0 8 ≡ 0 }
+{
+    if PAIRED {
+        none_zero(lo, hi)
+    } else {
+        none_empty(lo, hi)
+    }
+}
+
+// The strides that the block's bytes say.
+fn block_strides<const PAIRED: bool>(lo: u64, hi: u64) -> u64
+    ensures { (result ≡ inline_strides (kind_of PAIRED) (bytes 8 lo ++ bytes 8 hi) 0 8) × (result < 2 ^ 19) }
+{
+    if PAIRED {
+        first_total(lo, hi)
+    } else {
+        strides_total(lo, hi)
+    }
+}
+
+// The spans that they say, none where single.
+fn block_spans<const PAIRED: bool>(lo: u64, hi: u64) -> u64
+    ensures { (result ≡ inline_spans (kind_of PAIRED) (bytes 8 lo ++ bytes 8 hi) 0 8) × (result < 2 ^ 19) }
+{
+    if PAIRED { second_total(lo, hi) } else { 0 }
+}
+
+// What the bytes of a record say that needs a row: a single one's are all 0.
+fn bytes_value<const PAIRED: bool>(bytes: &[u8], j: usize) -> Value
+    requires { (2 * j + 1 < length bytes.now) × (j < 1024) × (needs_row (kind_of PAIRED) (slot_bytes bytes.now j) ≡ true) }
+    ensures { result ≡ inline (kind_of PAIRED) (slot_bytes bytes.now j) }
+{
+    if PAIRED {
+        Value {
+            strides: bytes[2 * j] as u32,
+            spans: bytes[2 * j + 1] as u32,
+        }
+    } else {
+        Value {
+            strides: 0,
+            spans: 0,
+        }
+    }
+}
 
 // The sums after the blocks from one on that are neither marked nor need a row.
-fn pair_plain(bytes: &[u8], full: usize, mark: &[u64], stamp: u64, s: Sums) -> Sums
-    requires { (s.block ≤ full) × (full ≤ 128) × (full ≤ length mark.now) × (16 * full ≤ length bytes.now) × (s.strides < 2 ^ 60) × (s.spans < 2 ^ 60) }
-    ensures { PlainBlocks Paired bytes.now mark.now stamp full s result }
+fn plain<const PAIRED: bool>(w: &LentWindow<'_>, full: usize, s: Sums) -> Sums
+    requires { (s.block ≤ full) × (full ≤ 128) × (full ≤ length w.now.mark.now) × (16 * full ≤ length w.now.bytes.now) × (s.strides < 2 ^ 60) × (s.spans < 2 ^ 60) }
+    ensures { PlainBlocks (kind_of PAIRED) w.now.bytes.now w.now.mark.now w.now.stamp full s result }
 {
-    let mut x = s.strides;
-    let mut y = s.spans;
-    let mut b = s.block;
-    while b < full {
-        let lo = word_at(bytes, 16 * b);
-        let hi = word_at(bytes, 16 * b + 8);
-        if mark[b] == stamp {
-            return Sums {
-                strides: x,
-                spans: y,
-                row: s.row,
-                block: b,
-            };
+    let mut t = s;
+    for b in s.block..full {
+        let lo = word_at(w.bytes, 16 * b);
+        let hi = word_at(w.bytes, 16 * b + 8);
+        if w.mark[b] == w.stamp || !none_lacking::<PAIRED>(lo, hi) {
+            t.block = b;
+            return t;
         }
-        if none_zero(lo, hi) {
-            x += first_total(lo, hi);
-            y += second_total(lo, hi);
-            b += 1;
-        } else {
-            return Sums {
-                strides: x,
-                spans: y,
-                row: s.row,
-                block: b,
-            };
-        }
+        t.strides += block_strides::<PAIRED>(lo, hi);
+        t.spans += block_spans::<PAIRED>(lo, hi);
     }
-    Sums {
-        strides: x,
-        spans: y,
-        row: s.row,
-        block: b,
-    }
+    t.block = full;
+    t
 }
 
 // What a mask says of the records after record z: its bits above bit z.
@@ -60,32 +89,32 @@ pub fn mask_after(mask: u64, z: usize) -> u64
 }
 
 // One block of which some records need rows: its bytes added up, then each such record's row put in place of its bytes.
-fn pair_rows(bytes: &[u8], rows: &[u8], past: usize, base: u64, s: Sums) -> Step
-    requires { BlockReady Paired base bytes.now rows.now past (s.block + 1) s }
-    ensures { BlockStepped Paired base bytes.now rows.now s.block result }
+fn with_rows<const PAIRED: bool>(w: &LentWindow<'_>, s: Sums) -> Option<Sums>
+    requires { BlockReady (kind_of PAIRED) w.now.base w.now.bytes.now w.now.rows.now w.now.past (s.block + 1) s }
+    ensures { BlockStepped (kind_of PAIRED) w.now.base w.now.bytes.now w.now.rows.now s.block result }
 {
-    let lo = word_at(bytes, 16 * s.block);
-    let hi = word_at(bytes, 16 * s.block + 8);
-    let mut x = s.strides + first_total(lo, hi);
-    let mut y = s.spans + second_total(lo, hi);
+    let kind = kind_of::<PAIRED>();
+    let lo = word_at(w.bytes, 16 * s.block);
+    let hi = word_at(w.bytes, 16 * s.block + 8);
+    let mut x = s.strides + block_strides::<PAIRED>(lo, hi);
+    let mut y = s.spans + block_spans::<PAIRED>(lo, hi);
     let mut row = s.row;
-    let mut left = row_mask(Kind::Paired, lo, hi);
+    let mut left = row_mask(kind, lo, hi);
     let mut j = 8 * s.block;
+    // no range says it: each turn goes on to the next bit that is set
     while left != 0 {
         let z = lowest_record(left as u8) as usize;
         j += z;
-        row = find_row(Kind::Paired, rows, past, row, base + j as u64 + 1);
-        if row == past {
-            return Step::Lack;
-        }
-        let v = row_value_at(Kind::Paired, rows, row);
-        x = x - bytes[2 * j] as u64 + v.strides as u64;
-        y = y - bytes[2 * j + 1] as u64 + v.spans as u64;
-        row += 1;
+        let i = find_row::<PAIRED>(w, row, w.base + j as u64 + 1)?;
+        let v = row_value_at(kind, w.rows, i);
+        let old = bytes_value::<PAIRED>(w.bytes, j);
+        x = x - old.strides as u64 + v.strides as u64;
+        y = y - old.spans as u64 + v.spans as u64;
+        row = i + 1;
         j += 1;
         left = mask_after(left, z);
     }
-    Step::Next(Sums {
+    Some(Sums {
         strides: x,
         spans: y,
         row,
@@ -94,158 +123,26 @@ fn pair_rows(bytes: &[u8], rows: &[u8], past: usize, base: u64, s: Sums) -> Step
 }
 
 // The sums up to a marked block or to the end of the whole blocks.
-fn pair_blocks(
-    bytes: &[u8],
-    full: usize,
-    mark: &[u64],
-    stamp: u64,
-    rows: &[u8],
-    past: usize,
-    base: u64,
-    s: Sums,
-) -> Step
-    requires { BlockReady Paired base bytes.now rows.now past full s × (full ≤ length mark.now) }
-    ensures { BlocksPassed Paired base bytes.now rows.now mark.now stamp s.block full result }
+fn blocks_of<const PAIRED: bool>(w: &LentWindow<'_>, full: usize, s: Sums) -> Option<Sums>
+    requires { BlockReady (kind_of PAIRED) w.now.base w.now.bytes.now w.now.rows.now w.now.past full s × (full ≤ length w.now.mark.now) }
+    ensures { BlocksPassed (kind_of PAIRED) w.now.base w.now.bytes.now w.now.rows.now w.now.mark.now w.now.stamp s.block full result }
 {
-    let mut t = pair_plain(bytes, full, mark, stamp, s);
-    while t.block < full {
-        let b = t.block;
-        if mark[b] == stamp {
-            return Step::Next(t);
-        }
-        let step = pair_rows(bytes, rows, past, base, t);
-        match step {
-            Step::Next(u) => {
-                t = pair_plain(bytes, full, mark, stamp, u);
-            }
-            Step::Lack => {
-                return Step::Lack;
-            }
-        }
+    let mut t = plain::<PAIRED>(w, full, s);
+    // no range says it: each turn goes on to the next block that needs rows
+    while t.block < full && w.mark[t.block] != w.stamp {
+        let u = with_rows::<PAIRED>(w, t)?;
+        t = plain::<PAIRED>(w, full, u);
     }
-    Step::Next(t)
-}
-
-// The sums after the blocks from one on that are neither marked nor need a row.
-fn single_plain(bytes: &[u8], full: usize, mark: &[u64], stamp: u64, s: Sums) -> Sums
-    requires { (s.block ≤ full) × (full ≤ 128) × (full ≤ length mark.now) × (16 * full ≤ length bytes.now) × (s.strides < 2 ^ 60) × (s.spans < 2 ^ 60) }
-    ensures { PlainBlocks Single bytes.now mark.now stamp full s result }
-{
-    let mut x = s.strides;
-    let mut b = s.block;
-    while b < full {
-        let lo = word_at(bytes, 16 * b);
-        let hi = word_at(bytes, 16 * b + 8);
-        if mark[b] == stamp {
-            return Sums {
-                strides: x,
-                spans: s.spans,
-                row: s.row,
-                block: b,
-            };
-        }
-        if none_empty(lo, hi) {
-            x += strides_total(lo, hi);
-            b += 1;
-        } else {
-            return Sums {
-                strides: x,
-                spans: s.spans,
-                row: s.row,
-                block: b,
-            };
-        }
-    }
-    Sums {
-        strides: x,
-        spans: s.spans,
-        row: s.row,
-        block: b,
-    }
-}
-
-// One block of which some records need rows: its bytes added up, then each such record's row put in place of its bytes.
-fn single_rows(bytes: &[u8], rows: &[u8], past: usize, base: u64, s: Sums) -> Step
-    requires { BlockReady Single base bytes.now rows.now past (s.block + 1) s }
-    ensures { BlockStepped Single base bytes.now rows.now s.block result }
-{
-    let lo = word_at(bytes, 16 * s.block);
-    let hi = word_at(bytes, 16 * s.block + 8);
-    let mut x = s.strides + strides_total(lo, hi);
-    let mut row = s.row;
-    let mut left = row_mask(Kind::Single, lo, hi);
-    let mut j = 8 * s.block;
-    while left != 0 {
-        let z = lowest_record(left as u8) as usize;
-        j += z;
-        row = find_row(Kind::Single, rows, past, row, base + j as u64 + 1);
-        if row == past {
-            return Step::Lack;
-        }
-        let v = row_value_at(Kind::Single, rows, row);
-        x += v.strides as u64;
-        row += 1;
-        j += 1;
-        left = mask_after(left, z);
-    }
-    Step::Next(Sums {
-        strides: x,
-        spans: s.spans,
-        row,
-        block: s.block + 1,
-    })
-}
-
-// The sums up to a marked block or to the end of the whole blocks.
-fn single_blocks(
-    bytes: &[u8],
-    full: usize,
-    mark: &[u64],
-    stamp: u64,
-    rows: &[u8],
-    past: usize,
-    base: u64,
-    s: Sums,
-) -> Step
-    requires { BlockReady Single base bytes.now rows.now past full s × (full ≤ length mark.now) }
-    ensures { BlocksPassed Single base bytes.now rows.now mark.now stamp s.block full result }
-{
-    let mut t = single_plain(bytes, full, mark, stamp, s);
-    while t.block < full {
-        let b = t.block;
-        if mark[b] == stamp {
-            return Step::Next(t);
-        }
-        let step = single_rows(bytes, rows, past, base, t);
-        match step {
-            Step::Next(u) => {
-                t = single_plain(bytes, full, mark, stamp, u);
-            }
-            Step::Lack => {
-                return Step::Lack;
-            }
-        }
-    }
-    Step::Next(t)
+    Some(t)
 }
 
 // The sums up to a marked block, by kind.
-pub fn blocks(
-    kind: Kind,
-    bytes: &[u8],
-    full: usize,
-    mark: &[u64],
-    stamp: u64,
-    rows: &[u8],
-    past: usize,
-    base: u64,
-    s: Sums,
-) -> Step
-    requires { BlockReady kind base bytes.now rows.now past full s × (full ≤ length mark.now) }
-    ensures { BlocksPassed kind base bytes.now rows.now mark.now stamp s.block full result }
+pub fn blocks(w: &LentWindow<'_>, full: usize, s: Sums) -> Option<Sums>
+    requires { BlockReady w.now.kind w.now.base w.now.bytes.now w.now.rows.now w.now.past full s × (full ≤ length w.now.mark.now) }
+    ensures { BlocksPassed w.now.kind w.now.base w.now.bytes.now w.now.rows.now w.now.mark.now w.now.stamp s.block full result }
 {
-    match kind {
-        Kind::Paired => pair_blocks(bytes, full, mark, stamp, rows, past, base, s),
-        Kind::Single => single_blocks(bytes, full, mark, stamp, rows, past, base, s),
+    match w.kind {
+        Kind::Paired => blocks_of::<true>(w, full, s),
+        Kind::Single => blocks_of::<false>(w, full, s),
     }
 }

@@ -2,6 +2,11 @@
 // This crate is inner: its callers prove what it requires.
 #![tactic(auto)]
 
+ghost use Rattle.std.specs.Prelude.{◌≡◌};
+ghost use Rattle.loc_window.specs.Window.{kind_of};
+
+use loc_leaf::Kind;
+
 pub mod blocks;
 pub mod checkpoint;
 pub mod plan;
@@ -18,6 +23,20 @@ pub struct PlannedWindow {
     pub past: usize,
 }
 
+// What a walk over a window reads: the slots of the m records that follow `base` others, the rows, and which blocks are marked with the stamp.
+// The window's rows stand before place `past`.
+#[derive(Clone, Copy)]
+pub struct LentWindow<'a> {
+    pub kind: Kind,
+    pub bytes: &'a [u8],
+    pub m: usize,
+    pub mark: &'a [u64],
+    pub stamp: u64,
+    pub rows: &'a [u8],
+    pub past: usize,
+    pub base: u64,
+}
+
 // What the records of so many blocks add up to, and how many rows are passed.
 #[derive(Clone, Copy)]
 pub struct Sums {
@@ -27,9 +46,9 @@ pub struct Sums {
     pub block: usize,
 }
 
-// The sums after some records more, or that one of them lacks its row.
-#[derive(Clone, Copy)]
-pub enum Step {
-    Next(Sums),
-    Lack,
+// The kind that an instance of a walk is made for.
+pub(crate) fn kind_of<const PAIRED: bool>() -> Kind
+    ensures { result ≡ kind_of PAIRED }
+{
+    if PAIRED { Kind::Paired } else { Kind::Single }
 }

@@ -11,14 +11,14 @@ ghost use Rattle.loc_window.specs.Planned.{planned, Nearing};
 use crate::PlannedWindow;
 use crate::rows::row_number;
 use loc_leaf::Kind;
-use loc_leaf::delta_loc::{LOC_WINDOW, lesser, one_if};
+use loc_leaf::delta_loc::LOC_WINDOW;
 
 // 1 where the row at a place has a number up to n, else 0.
 fn passes(kind: Kind, rows: &[u8], row: usize, n: u64) -> usize
     requires { (ascending 0 (row_list kind rows.now) ≡ true) × (row < fill (row_width kind) rows.now) }
     ensures { Counts (rows_up_to n (row_list kind rows.now)) row result }
 {
-    one_if(row_number(kind, rows, row) <= n)
+    usize::from(row_number(kind, rows, row) <= n)
 }
 
 // A place that is further on by as many of three quarters as have a last row with a number up to n.
@@ -34,33 +34,17 @@ fn advance(kind: Kind, rows: &[u8], from: usize, left: usize, n: u64) -> usize
 }
 
 // The last rows, one by one.
-fn plan_last(
-    kind: Kind,
-    rows: &[u8],
-    first: usize,
-    past: usize,
-    left: usize,
-    base: u64,
-    m: usize,
-) -> PlannedWindow
-    requires { Nearing kind rows.now base first past left × (base + 1024 < 2 ^ 64) }
-    ensures { result ≡ planned (row_list kind rows.now) base m }
+fn plan_last(kind: Kind, rows: &[u8], left: usize, near: PlannedWindow) -> PlannedWindow
+    requires { Nearing kind rows.now near.base near.first near.past left × (near.base + 1024 < 2 ^ 64) }
+    ensures { result ≡ planned (row_list kind rows.now) near.base near.m }
 {
-    let top = base + LOC_WINDOW;
-    let mut f = first;
-    let mut p = past;
-    let mut rest = left;
-    while 0 < rest {
-        f += passes(kind, rows, f, base);
-        p += passes(kind, rows, p, top);
-        rest -= 1;
+    let top = near.base + LOC_WINDOW;
+    let mut window = near;
+    for _ in 0..left {
+        window.first += passes(kind, rows, window.first, near.base);
+        window.past += passes(kind, rows, window.past, top);
     }
-    PlannedWindow {
-        base,
-        m,
-        first: f,
-        past: p,
-    }
+    window
 }
 
 // From the rows numbered up to `end` on: between there and the window's last number are no more rows than numbers.
@@ -77,15 +61,20 @@ fn plan_from(
     ensures { result ≡ planned (row_list kind rows.now) base m }
 {
     let top = base + LOC_WINDOW;
-    let mut first = passed;
-    let mut past = passed;
-    let mut left = lesser((count - passed) as u64, top - end) as usize;
+    let mut window = PlannedWindow {
+        base,
+        m,
+        first: passed,
+        past: passed,
+    };
+    let mut left = ((count - passed) as u64).min(top - end) as usize;
+    // no count: three quarters of what is left are passed or dropped at once
     while 3 <= left {
-        first = advance(kind, rows, first, left, base);
-        past = advance(kind, rows, past, left, top);
+        window.first = advance(kind, rows, window.first, left, base);
+        window.past = advance(kind, rows, window.past, left, top);
         left -= 3 * ((left + 1) / 4);
     }
-    plan_last(kind, rows, first, past, left, base, m)
+    plan_last(kind, rows, left, window)
 }
 
 // The window that follows record `base`, of which m records are looked at; `passed` rows are numbered up to `end`.

@@ -5,27 +5,27 @@ ghost use Rattle.loc_leaf.specs.Area.{fill};
 ghost use Rattle.loc_leaf.specs.Bytes.{bytes, number_at};
 ghost use Rattle.loc_leaf.specs.Kind.{row_width};
 ghost use Rattle.loc_leaf.specs.Rows.{row_list, row_value, number_in};
-ghost use Rattle.loc_window.specs.Window.{Below, RowsBefore, FoundRow};
+ghost use Rattle.loc_window.specs.Window.{kind_of, Below, RowsBefore, FoundRow};
 
+use crate::{LentWindow, kind_of};
 use loc_leaf::delta_loc::{ROW_SPANS, ROW_STRIDES, row_width};
-use loc_leaf::file::{FILE_HEADER_LEN, eight, four};
+use loc_leaf::file::FILE_HEADER_LEN;
 use loc_leaf::{Kind, Value};
+
+// N bytes of a slice.
+fn array_at<const N: usize>(s: &[u8], at: usize) -> [u8; N]
+    requires { at + N ≤ length s.now }
+    ensures { result ≡ take N (drop at s.now) }
+{
+    *s[at..at + N].first_chunk().unwrap()
+}
 
 // Eight bytes of a slice as a word.
 pub fn word_at(s: &[u8], at: usize) -> u64
     requires { at + 8 ≤ length s.now }
     ensures { bytes 8 result ≡ take 8 (drop at s.now) }
 {
-    eight(
-        s[at],
-        s[at + 1],
-        s[at + 2],
-        s[at + 3],
-        s[at + 4],
-        s[at + 5],
-        s[at + 6],
-        s[at + 7],
-    )
+    u64::from_le_bytes(array_at(s, at))
 }
 
 // Four bytes of a slice as a number.
@@ -33,7 +33,7 @@ fn half_at(s: &[u8], at: usize) -> u32
     requires { at + 4 ≤ length s.now }
     ensures { result ≡ number_at 4 at s.now }
 {
-    four(s[at], s[at + 1], s[at + 2], s[at + 3])
+    u32::from_le_bytes(array_at(s, at))
 }
 
 // The number of the row at a place.
@@ -61,34 +61,31 @@ pub fn row_value_at(kind: Kind, rows: &[u8], row: usize) -> Value
     }
 }
 
-// The place of a record's row between the rows passed and place `past`, or `past` where there is none.
-fn search_row(kind: Kind, rows: &[u8], past: usize, passed: usize, id: u64) -> usize
-    requires { RowsBefore kind rows.now id past × Below (row_list kind rows.now) passed id }
-    ensures { FoundRow kind rows.now past id result }
+// The place of a record's row, which stands before place `past`, searched from the rows passed on; none where there is none.
+fn search_row<const PAIRED: bool>(w: &LentWindow<'_>, passed: usize, id: u64) -> Option<usize>
+    requires { RowsBefore (kind_of PAIRED) w.now.rows.now id w.now.past × Below (row_list (kind_of PAIRED) w.now.rows.now) passed id }
+    ensures { FoundRow (kind_of PAIRED) w.now.rows.now w.now.past id result }
 {
-    let mut row = passed;
-    while row < past {
-        let number = row_number(kind, rows, row);
+    let kind = kind_of::<PAIRED>();
+    for row in passed..w.past {
+        let number = row_number(kind, w.rows, row);
         if number == id {
-            return row;
+            return Some(row);
         }
         if id < number {
-            return past;
+            return None;
         }
-        row += 1;
     }
-    past
+    None
 }
 
 // The same, where the next row is looked at first.
-pub fn find_row(kind: Kind, rows: &[u8], past: usize, passed: usize, id: u64) -> usize
-    requires { RowsBefore kind rows.now id past × Below (row_list kind rows.now) passed id }
-    ensures { FoundRow kind rows.now past id result }
+pub fn find_row<const PAIRED: bool>(w: &LentWindow<'_>, passed: usize, id: u64) -> Option<usize>
+    requires { RowsBefore (kind_of PAIRED) w.now.rows.now id w.now.past × Below (row_list (kind_of PAIRED) w.now.rows.now) passed id }
+    ensures { FoundRow (kind_of PAIRED) w.now.rows.now w.now.past id result }
 {
-    if passed < past {
-        if row_number(kind, rows, passed) == id {
-            return passed;
-        }
+    if passed < w.past && row_number(kind_of::<PAIRED>(), w.rows, passed) == id {
+        return Some(passed);
     }
-    search_row(kind, rows, past, passed, id)
+    search_row::<PAIRED>(w, passed, id)
 }

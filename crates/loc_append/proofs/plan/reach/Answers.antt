@@ -2,39 +2,34 @@
 use borrow.Author.Rules.{rules}
 use mathlib.Core.Path.{refl}
 use native.Mathlib.Omega.{arith}
-use Rattle.loc_append.proofs.PlanLaws.{reach_slots, reach_rows, reach_checkpoints, reach_done}
+use Rattle.std.proofs.lemmas.Result.{err_from_is_err_and}
+use Rattle.loc_append.proofs.PlanLaws.{slots_inside, rows_inside, checkpoints_inside, reach_slots, reach_rows, reach_checkpoints, reach_done}
 use Rattle.loc_append.proofs.plan.reach.Goals as goal
 
-pub returns-then-past : goal.returns-then-past
-returns-then-past c = search (rules, reach_slots)
+pub reach_end-requires : goal.reach_end-requires
+reach_end-requires c = (slots_inside _ _ _ c.requires, omega arith)
 
-pub returns-then-past-2 : goal.returns-then-past-2
-returns-then-past-2 c = search (rules, reach_rows)
+pub returns-in_err-slots : goal.returns-in_err-slots
+returns-in_err-slots c =
+    let p = err_from_is_err_and c.from_residual.result c.from_residual.ensures.1 in
+    rw (p.1, p.2) (reach_slots _ _ _ c.requires _ _ _ c.in_err-slots.ensures)
 
-pub overflow_add-windows : goal.overflow_add-windows
-overflow_add-windows c = omega (arith, c.past.ensures.1 c.if-past.false)
+pub reach_end-requires-2 : goal.reach_end-requires-2
+reach_end-requires-2 c = (rows_inside _ _ _ c.requires, omega arith)
 
-pub returns-then-past-3 : goal.returns-then-past-3
-returns-then-past-3 c = search (rules, reach_checkpoints)
+pub returns-in_err-rows : goal.returns-in_err-rows
+returns-in_err-rows c =
+    let p = err_from_is_err_and c.from_residual-in_err-rows.result c.from_residual-in_err-rows.ensures.1 in
+    rw (p.1, p.2) (reach_rows _ _ _ c.requires _ _ _ c.in_ok-slots.ensures _ c.row_width.ensures.0 _ c.in_err-rows.ensures)
 
-pub overflow_mul-new_slots : goal.overflow_mul-new_slots
-overflow_mul-new_slots c = omega (arith, c.past-3.ensures.1 c.if-past-3.false, c.past-2.ensures.1 c.if-past-2.false, c.past.ensures.1 c.if-past.false)
+pub reach_end-requires-3 : goal.reach_end-requires-3
+reach_end-requires-3 c = (checkpoints_inside _ _ _ c.requires, omega arith)
 
-pub overflow_add-new_slots : goal.overflow_add-new_slots
-overflow_add-new_slots c = omega (arith, c.past-3.ensures.1 c.if-past-3.false, c.past-2.ensures.1 c.if-past-2.false, c.past.ensures.1 c.if-past.false)
-
-pub overflow_mul-new_rows : goal.overflow_mul-new_rows
-overflow_mul-new_rows c = omega (arith, c.past-3.ensures.1 c.if-past-3.false, c.past-2.ensures.1 c.if-past-2.false, c.past.ensures.1 c.if-past.false)
-
-pub overflow_add-new_rows : goal.overflow_add-new_rows
-overflow_add-new_rows c = omega (arith, c.past-3.ensures.1 c.if-past-3.false, c.past-2.ensures.1 c.if-past-2.false, c.past.ensures.1 c.if-past.false)
-
-pub overflow_mul-new_checkpoints : goal.overflow_mul-new_checkpoints
-overflow_mul-new_checkpoints c = omega (arith, c.past-3.ensures.1 c.if-past-3.false, c.past-2.ensures.1 c.if-past-2.false, c.past.ensures.1 c.if-past.false)
-
-pub overflow_add-new_checkpoints : goal.overflow_add-new_checkpoints
-overflow_add-new_checkpoints c = omega (arith, c.past-3.ensures.1 c.if-past-3.false, c.past-2.ensures.1 c.if-past-2.false, c.past.ensures.1 c.if-past.false)
+pub returns-in_err-checkpoints : goal.returns-in_err-checkpoints
+returns-in_err-checkpoints c =
+    let p = err_from_is_err_and c.from_residual-in_err-checkpoints.result c.from_residual-in_err-checkpoints.ensures.1 in
+    rw (p.1, p.2) (reach_checkpoints _ _ _ c.requires _ _ _ c.in_ok-slots.ensures _ c.row_width.ensures.0 _ c.in_ok-rows.ensures _ _ c.checkpoint_width.ensures.0 refl _ c.in_err-checkpoints.ensures)
 
 pub returns : goal.returns
 returns c =
-    reach_done _ _ _ _ _ _ _ _ _ c.past.ensures.0 c.if-past.false _ c.row_width-row_bytes.ensures.0 _ c.past-2.ensures.0 c.if-past-2.false _ _ c.checkpoint_width-checkpoint_bytes.ensures.0 refl _ c.past-3.ensures.0 c.if-past-3.false (omega (arith, c.past.ensures.1 c.if-past.false))
+    reach_done _ _ _ c.requires _ _ _ c.in_ok-slots.ensures _ c.row_width.ensures.0 _ c.in_ok-rows.ensures _ _ c.checkpoint_width.ensures.0 refl _ c.in_ok-checkpoints.ensures (search rules)

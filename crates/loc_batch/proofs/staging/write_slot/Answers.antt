@@ -1,12 +1,13 @@
 -- `staging::write_slot` meets its contract.
-use borrow.Author.Rules.{rules}
-use lib.ListN.{length-set}
 use native.Mathlib.Omega.{arith}
+use mathlib.Core.Path.{ap}
+use lib.ListN.{length}
+use Rattle.loc_leaf.proofs.ValueLaws.{length_slot}
 use Rattle.loc_batch.proofs.StageLaws.{slot_written}
 use Rattle.loc_batch.proofs.staging.write_slot.Goals as goal
 
-pub bounds-out-to-2 : goal.bounds-out-to-2
-bounds-out-to-2 c = simp length-set (omega arith)
+pub put-requires : goal.put-requires
+put-requires c = omega (arith, ap length c.pack.ensures, length_slot c.args.kind c.value.result)
 
 pub returns : goal.returns
-returns c = search (rules, slot_written)
+returns c = λ id. slot_written _ id _ _ c.value.ensures _ c.args.to _ (rw (← c.pack.ensures) c.put.ensures)

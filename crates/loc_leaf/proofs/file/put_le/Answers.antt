@@ -1,19 +1,12 @@
 -- `file::put_le` meets its contract.
-use borrow.Author.Rules.{rules}
-use lib.ListN.{length-set}
-use mathlib.Core.Path.{refl, ◌∙◌}
+-- A byte is stored at each place that the area has.
+use mathlib.Core.Path.{◌∙◌}
 use native.Mathlib.Omega.{arith}
-use Rattle.loc_leaf.proofs.NumberLaws.{put_turn, put_out, put_end}
+use Rattle.loc_leaf.proofs.NumberLaws.{put_turn, put_done}
 use Rattle.loc_leaf.proofs.file.put_le.Goals as goal
 
-pub loop-left-init : goal.loop-left-init
-loop-left-init c = (refl, refl)
-
-pub returns-then-s-to : goal.returns-then-s-to
-returns-then-s-to c = search (rules, put_out)
-
-pub loop-left-preserved : goal.loop-left-preserved
-loop-left-preserved c = (simp length-set (omega arith), c.loop-left.invariant.1 ∙ put_turn _ _ _ _ c.loop-left-test.true)
+pub loop-to-preserved : goal.loop-to-preserved
+loop-to-preserved c = c.loop-to.invariant ∙ put_turn _ _ _ _ (omega arith)
 
 pub returns : goal.returns
-returns c = search (rules, put_end)
+returns c = put_done _ _ _ _ _ c.loop-to.invariant (λ h. omega arith)

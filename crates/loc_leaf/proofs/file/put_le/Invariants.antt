@@ -1,12 +1,9 @@
 -- `file::put_le` meets its contract.
-use lib.ListN.{length}
+-- What is left to store, on what is stored so far, is the whole.
 use mathlib.Core.Path.{◌≡◌}
+use Prim.Native.Nat.{◌+◌, ◌-◌}
 use Rattle.loc_leaf.specs.Bytes.{bytes, store}
 use Rattle.loc_leaf.proofs.file.put_le.Given as goal
 
-abbrev pub invariant-loop-left : goal.invariant-loop-left
-invariant-loop-left l =
-    (length l.s ≡ length l.initial.s) × (store l.at (bytes l.n l.v) l.initial.s ≡ store l.to (bytes l.left l.rest) l.s)
-
-abbrev pub decreases-loop-left : goal.decreases-loop-left
-decreases-loop-left l = l.left
+abbrev pub invariant-loop-to : goal.invariant-loop-to
+invariant-loop-to l = store l.at (bytes l.n l.v) l.initial.s ≡ store l.to (bytes (l.at + l.n - l.to) l.rest) l.s

@@ -1,10 +1,10 @@
 -- `file::u32_at` meets its contract.
-use borrow.Author.Rules.{rules}
-use Rattle.loc_leaf.proofs.NumberLaws.{number_past, number_part}
+use native.Mathlib.Omega.{arith}
+use lib.ListN.{drop}
+use Rattle.loc_leaf.specs.Bytes.{number_at}
+use Rattle.loc_leaf.proofs.NumberLaws.{four_are}
 use Rattle.loc_leaf.proofs.file.u32_at.Goals as goal
 
-pub returns-then-s-at : goal.returns-then-s-at
-returns-then-s-at c = search (rules, number_past)
-
 pub returns : goal.returns
-returns c = search (rules, number_part)
+unfolding number_at
+returns c = four_are (drop c.args.at c.args.s.now) _ _ _ _ _ (c.bytes_at.ensures 0 (omega arith)) (c.bytes_at.ensures 1 (omega arith)) (c.bytes_at.ensures 2 (omega arith)) (c.bytes_at.ensures 3 (omega arith)) c.from_le_bytes.ensures

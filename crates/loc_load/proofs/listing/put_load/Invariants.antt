@@ -1,5 +1,5 @@
 -- `loc_load::listing::put_load` meets its contract.
-use Prim.Native.Nat.{◌+◌, ◌-◌, ◌*◌, ◌≤◌}
+use Prim.Native.Nat.{◌+◌, ◌*◌, ◌≤◌}
 use mathlib.Core.Path.{◌≡◌}
 use lib.ListN.{length}
 use Rattle.loc_load.proofs.ListingLaws.{Left}
@@ -7,12 +7,8 @@ use Rattle.loc_load.proofs.listing.put_load.Given as goal
 
 abbrev pub invariant-loop-i : goal.invariant-loop-i
 invariant-loop-i l =
-    Left l.seed l.n l.initial.out l.initial.at l.out l.at l.x l.body l.span l.i
+    Left l.fn.seed l.fn.n l.initial.out l.initial.at l.out l.at l.x l.body l.span l.i
     × (l.at ≤ l.initial.at + 126 * l.i)
     × (l.body ≤ 16 + 2400 * l.i)
     × (l.span ≤ 16 + 2400 * l.i)
-    × (l.i ≤ l.n)
     × (length l.out ≡ length l.initial.out)
-
-abbrev pub decreases-loop-i : goal.decreases-loop-i
-decreases-loop-i l = l.n - l.i

@@ -1,40 +1,38 @@
 -- `loc_parse::form::line_at` meets its contract.
-use mathlib.Core.Path.{sym, ◌∙◌}
-use Rattle.loc_parse.specs.Lines.{line_at}
-use Rattle.loc_parse.proofs.LineLaws.{line_told, stops, goes, count_fits}
+use Prim.Native.Nat.{◌-◌, ◌^◌}
+use mathlib.Core.Path.{sym}
+use native.Mathlib.Omega.{arith}
+use Rattle.loc_number.proofs.SpellLaws.{number_small}
+use Rattle.loc_parse.specs.Lines.{◌then◌, line_at}
 use Rattle.loc_parse.proofs.form.line_at.Goals as goal
 
-pub returns-in_default : goal.returns-in_default
-unfolding line_at
-returns-in_default c = line_told _ _ (sym (stops _ _ _ _ _ _ c.number_at-first.ensures c.in_default.is))
+pub returns-in_err-number : goal.returns-in_err-number
+unfolding line_at ◌then◌
+returns-in_err-number c = grind arith
 
-pub returns-in_default-second : goal.returns-in_default-second
-unfolding line_at
-returns-in_default-second c = line_told _ _ (sym (goes _ _ _ _ _ _ c.number_at-first.ensures _ _ c.in-Known.is ∙ stops _ _ _ _ _ _ c.number_at-second.ensures c.in_default-second.is))
+pub returns-in_err-start : goal.returns-in_err-start
+unfolding line_at ◌then◌
+returns-in_err-start c = grind arith
 
-pub returns-in_default-third : goal.returns-in_default-third
-unfolding line_at
-returns-in_default-third c = line_told _ _ (sym (goes _ _ _ _ _ _ c.number_at-first.ensures _ _ c.in-Known.is ∙ goes _ _ _ _ _ _ c.number_at-second.ensures _ _ c.in-Known-second.is ∙ stops _ _ _ _ _ _ c.number_at-third.ensures c.in_default-third.is))
+pub returns-in_err-len : goal.returns-in_err-len
+unfolding line_at ◌then◌
+returns-in_err-len c = grind arith
 
-pub returns-in_default-fourth : goal.returns-in_default-fourth
-unfolding line_at
-returns-in_default-fourth c =
-    line_told _ _ (sym (goes _ _ _ _ _ _ c.number_at-first.ensures _ _ c.in-Known.is ∙ goes _ _ _ _ _ _ c.number_at-second.ensures _ _ c.in-Known-second.is ∙ goes _ _ _ _ _ _ c.number_at-third.ensures _ _ c.in-Known-third.is ∙ stops _ _ _ _ _ _ c.number_at-fourth.ensures c.in_default-fourth.is))
+pub returns-in_err-span_start : goal.returns-in_err-span_start
+unfolding line_at ◌then◌
+returns-in_err-span_start c = grind arith
 
-pub returns-in_default-fifth : goal.returns-in_default-fifth
-unfolding line_at
-returns-in_default-fifth c =
-    line_told _ _ (sym (goes _ _ _ _ _ _ c.number_at-first.ensures _ _ c.in-Known.is ∙ goes _ _ _ _ _ _ c.number_at-second.ensures _ _ c.in-Known-second.is ∙ goes _ _ _ _ _ _ c.number_at-third.ensures _ _ c.in-Known-third.is ∙ goes _ _ _ _ _ _ c.number_at-fourth.ensures _ _ c.in-Known-fourth.is ∙ stops _ _ _ _ _ _ c.number_at-fifth.ensures c.in_default-fifth.is))
+pub returns-in_err-span_len : goal.returns-in_err-span_len
+unfolding line_at ◌then◌
+returns-in_err-span_len c = grind arith
 
-pub returns-in_default-sixth : goal.returns-in_default-sixth
-unfolding line_at
-returns-in_default-sixth c =
-    line_told _ _ (sym (goes _ _ _ _ _ _ c.number_at-first.ensures _ _ c.in-Known.is ∙ goes _ _ _ _ _ _ c.number_at-second.ensures _ _ c.in-Known-second.is ∙ goes _ _ _ _ _ _ c.number_at-third.ensures _ _ c.in-Known-third.is ∙ goes _ _ _ _ _ _ c.number_at-fourth.ensures _ _ c.in-Known-fourth.is ∙ goes _ _ _ _ _ _ c.number_at-fifth.ensures _ _ c.in-Known-fifth.is ∙ stops _ _ _ _ _ _ c.number_at-sixth.ensures c.in_default-sixth.is))
+pub returns-in_err-count : goal.returns-in_err-count
+unfolding line_at ◌then◌
+returns-in_err-count c = grind arith
 
 pub overflow_cast-spans : goal.overflow_cast-spans
-overflow_cast-spans c = record { fits = count_fits _ _ _ c.number_at-sixth.ensures _ _ c.in-Known-sixth.is }
+overflow_cast-spans c = record { fits = omega (arith, number_small (2 ^ 32 - 1) 10 (omega arith) _ _ _ _ (sym c.in_ok-count.ensures)) }
 
 pub returns : goal.returns
-unfolding line_at
-returns c =
-    line_told _ _ (sym (goes _ _ _ _ _ _ c.number_at-first.ensures _ _ c.in-Known.is ∙ goes _ _ _ _ _ _ c.number_at-second.ensures _ _ c.in-Known-second.is ∙ goes _ _ _ _ _ _ c.number_at-third.ensures _ _ c.in-Known-third.is ∙ goes _ _ _ _ _ _ c.number_at-fourth.ensures _ _ c.in-Known-fourth.is ∙ goes _ _ _ _ _ _ c.number_at-fifth.ensures _ _ c.in-Known-fifth.is ∙ goes _ _ _ _ _ _ c.number_at-sixth.ensures _ _ c.in-Known-sixth.is))
+unfolding line_at ◌then◌
+returns c = grind arith

@@ -1,5 +1,5 @@
 -- `loc_parts::call::put_with` meets its contract.
-use native.Mathlib.Omega.{arith}
+use Rattle.std.proofs.Common.{arith}
 use Rattle.loc_calls.specs.Parts.{needed}
 use Rattle.loc_parts.proofs.PutLaws.{put_short, put_found}
 use Rattle.loc_parts.proofs.call.put_with.Goals as goal
@@ -7,9 +7,9 @@ use Rattle.loc_parts.proofs.call.put_with.Goals as goal
 pub returns-then-answers-n : goal.returns-then-answers-n
 returns-then-answers-n c =
     let n = c.needed_records-n in
-    put_short (needed c.args.composites.now c.args.components.now c.args.«record») _ c.args.answers.now n.result n.ensures.1 (omega (arith, n.ensures.0, n.auto.list)) _ (omega arith) c.refused.ensures
+    put_short (needed c.args.pairs.composites.now c.args.pairs.components.now c.args.«record») _ c.args.answers.now n.result n.ensures.1 (omega (arith, n.ensures.0, n.auto.list)) (omega arith)
 
 pub returns : goal.returns
 returns c =
     let n = c.needed_records-n in
-    put_found (needed c.args.composites.now c.args.components.now c.args.«record») _ c.args.answers.now n.result n.ensures.1 (omega (arith, n.ensures.0, n.auto.list)) _ (omega arith) _ c.copy_words.ensures c.accepted.ensures
+    put_found (needed c.args.pairs.composites.now c.args.pairs.components.now c.args.«record») _ c.args.answers.now n.result n.ensures.1 (omega (arith, n.ensures.0, n.auto.list)) (omega arith) _ c.copy_from_slice.ensures.after

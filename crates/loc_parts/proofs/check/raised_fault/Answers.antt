@@ -1,13 +1,14 @@
 -- `loc_parts::check::raised_fault` meets its contract.
-use borrow.Author.Rules.{rules}
-use Rattle.loc_parts.proofs.FaultLaws.{raised_zero, raised_past, raised_only}
+use Rattle.std.proofs.Common.{arith}
+use Rattle.std.proofs.lemmas.Bool.Decides.{nat_tests}
+use Rattle.loc_calls.specs.Parts.{strange}
+use Rattle.loc_calls.specs.Reading.{within}
 use Rattle.loc_parts.proofs.check.raised_fault.Goals as goal
 
-pub returns-then-c-eq0 : goal.returns-then-c-eq0
-returns-then-c-eq0 c = search (rules, raised_zero)
-
 pub returns-then-count-p : goal.returns-then-count-p
-returns-then-count-p c = search (rules, raised_past)
+unfolding strange within
+returns-then-count-p c = grind (arith, nat_tests)
 
-pub returns : goal.returns
-returns c = search (rules, raised_only)
+pub returns-else-count-p : goal.returns-else-count-p
+unfolding strange within
+returns-else-count-p c = grind (arith, nat_tests)

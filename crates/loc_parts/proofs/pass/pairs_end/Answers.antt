@@ -1,14 +1,7 @@
 -- `loc_parts::pass::pairs_end` meets its contract.
-use native.Mathlib.Omega.{arith}
-use borrow.Author.Rules.{rules}
-use Rattle.loc_parts.proofs.PairLaws.{to_most, end_low, end_high, end_some, end_found, end_lacking}
+use Rattle.std.proofs.Common.{arith, rules}
+use Rattle.loc_parts.proofs.PairLaws.{to_most, end_some, end_found, end_lacking}
 use Rattle.loc_parts.proofs.pass.pairs_end.Goals as goal
-
-pub returns-then-last-y : goal.returns-then-last-y
-returns-then-last-y c = search (rules, end_low)
-
-pub returns-then-y-composites : goal.returns-then-y-composites
-returns-then-y-composites c = search (rules, end_high)
 
 pub overflow_sub-r : goal.overflow_sub-r
 overflow_sub-r c = search (rules, end_some)
@@ -26,5 +19,5 @@ bounds-composites-r c =
 pub returns-then-composites-r : goal.returns-then-composites-r
 returns-then-composites-r c = search (rules, end_found)
 
-pub returns : goal.returns
-returns c = search (rules, end_lacking)
+pub returns-else-composites-r : goal.returns-else-composites-r
+returns-else-composites-r c = search (rules, end_lacking)

@@ -1,16 +1,11 @@
 -- `loc_read::window::read_window` meets its contract.
-use Prim.Native.Nat.{ℕ}
-use mathlib.Core.Path.{◌∙◌}
-use native.Mathlib.Omega.{arith}
-use lib.ListN.{length-replicate}
+use Rattle.std.proofs.Common.{ℕ, ◌∙◌, ap, not, arith}
+use Rattle.std.proofs.lemmas.List.{length-replicate}
 use Rattle.loc_window.proofs.PlannedLaws.{none_passed}
 use Rattle.loc_read.proofs.WalkLaws.{turn_few, turn_room, turn_low}
 use Rattle.loc_read.proofs.OwnLaws.{own_low, own_turn, own_asks, own_17, own_puts, own_read}
 use Rattle.loc_read.proofs.window.read_window.Goals as goal
-
-pub overflow_mul-w : goal.overflow_mul-w
-overflow_mul-w c =
-    omega (arith, own_low _ _ _ _ _ c.requires.tested _ _ c.requires.mark_len.1 _ c.loc_window-w.ensures)
+use Rattle.loc_read.proofs.window.read_window.Goals.{After-plan_window-window}
 
 pub plan_window-window-requires : goal.plan_window-window-requires
 plan_window-window-requires c =
@@ -18,41 +13,33 @@ plan_window-window-requires c =
 
 pub overflow_mul-window : goal.overflow_mul-window
 overflow_mul-window c =
-    omega (arith, (turn_low _ _ _ _ _ _ _ _ _ _ _ (own_turn _ _ _ _ _ c.requires.tested _ _ c.requires.mark_len.1 _ c.loc_window-w.ensures _ _ c.plan_window-window.ensures)).1)
+    omega (arith, (turn_low (own_turn _ _ _ _ _ c.requires.tested _ _ c.requires.mark_len.1 _ c.loc_window-w.ensures _ _ c.plan_window-window.ensures)).1)
 
 pub overflow_add-window : goal.overflow_add-window
 overflow_add-window c =
-    omega (arith, (turn_low _ _ _ _ _ _ _ _ _ _ _ (own_turn _ _ _ _ _ c.requires.tested _ _ c.requires.mark_len.1 _ c.loc_window-w.ensures _ _ c.plan_window-window.ensures)).1)
+    omega (arith, (turn_low (own_turn _ _ _ _ _ c.requires.tested _ _ c.requires.mark_len.1 _ c.loc_window-w.ensures _ _ c.plan_window-window.ensures)).1)
 
 pub overflow_mul-window-2 : goal.overflow_mul-window-2
 overflow_mul-window-2 c =
-    omega (arith, turn_few _ _ _ _ _ _ _ _ _ _ _ (own_turn _ _ _ _ _ c.requires.tested _ _ c.requires.mark_len.1 _ c.loc_window-w.ensures _ _ c.plan_window-window.ensures))
+    omega (arith, turn_few (own_turn _ _ _ _ _ c.requires.tested _ _ c.requires.mark_len.1 _ c.loc_window-w.ensures _ _ c.plan_window-window.ensures))
 
 pub copy_slots-requires : goal.copy_slots-requires
 copy_slots-requires c =
     let u = own_turn _ _ _ _ _ c.requires.tested _ _ c.requires.mark_len.1 _ c.loc_window-w.ensures _ _ c.plan_window-window.ensures in
-    (turn_room _ _ _ _ _ _ _ _ _ _ _ u, omega (arith, turn_few _ _ _ _ _ _ _ _ _ _ _ u, length-replicate {A = ℕ} 2048 0))
+    (turn_room u, omega (arith, turn_few u, length-replicate {A = ℕ} 2048 0))
 
-pub window_sums-step-requires : goal.window_sums-step-requires
-window_sums-step-requires c =
+pub window_sums-requires : goal.window_sums-requires
+window_sums-requires c =
     own_asks _ _ _ _ _ c.requires.tested _ _ c.requires.mark_len.1 _ c.loc_window-w.ensures _ c.plan_window-window.ensures _ _ _ c.requires.mark_len.0 (c.copy_slots.auto.out ∙ length-replicate {A = ℕ} 2048 0) (length-replicate {A = ℕ} 1025 0) (length-replicate {A = ℕ} 1025 0)
 
-pub returns-in_default : goal.returns-in_default
-returns-in_default c =
-    own_17 _ _ _ _ _ c.requires.tested _ _ c.requires.mark_len.1 _ c.loc_window-w.ensures _ c.plan_window-window.ensures _ _ c.copy_slots.ensures _ _ _ c.window_sums-step.ensures c.in_default.is _ c.refused.ensures
-
-pub window_end-body_end-requires : goal.window_end-body_end-requires
-window_end-body_end-requires c =
-    (omega arith, omega (arith, own_low _ _ _ _ _ c.requires.tested _ _ c.requires.mark_len.1 _ c.loc_window-w.ensures))
-
-pub window_end-span_end-requires : goal.window_end-span_end-requires
-window_end-span_end-requires c =
-    (omega arith, omega (arith, own_low _ _ _ _ _ c.requires.tested _ _ c.requires.mark_len.1 _ c.loc_window-w.ensures))
+pub returns-then-is_none : goal.returns-then-is_none
+returns-then-is_none c =
+    own_17 _ _ _ _ _ c.requires.tested _ _ c.requires.mark_len.1 _ c.loc_window-w.ensures _ c.plan_window-window.ensures _ _ c.copy_slots.ensures _ _ _ c.window_sums.ensures (c.is_none.ensures ∙ ap not c.if-is_none.true)
 
 pub put_window-requires : goal.put_window-requires
 put_window-requires c =
-    own_puts _ _ _ _ _ c.requires.tested _ _ c.requires.mark_len.1 _ c.loc_window-w.ensures _ c.plan_window-window.ensures _ _ c.copy_slots.ensures _ _ _ c.window_sums-step.ensures _ c.in-Next.is (c.window_sums-step.auto.body ∙ length-replicate {A = ℕ} 1025 0) (c.window_sums-step.auto.span ∙ length-replicate {A = ℕ} 1025 0)
+    own_puts _ _ _ _ _ c.requires.tested _ _ c.requires.mark_len.1 _ c.loc_window-w.ensures _ c.plan_window-window.ensures _ _ c.copy_slots.ensures _ _ _ c.window_sums.ensures (c.is_none.ensures ∙ ap not c.if-is_none.false) (c.window_sums.auto.body ∙ length-replicate {A = ℕ} 1025 0) (c.window_sums.auto.span ∙ length-replicate {A = ℕ} 1025 0)
 
 pub returns : goal.returns
 returns c =
-    own_read _ _ _ _ _ c.requires.tested _ _ c.requires.mark_len.1 _ c.loc_window-w.ensures _ c.plan_window-window.ensures _ _ c.copy_slots.ensures _ _ _ c.window_sums-step.ensures _ c.in-Next.is (c.window_sums-step.auto.body ∙ length-replicate {A = ℕ} 1025 0) (c.window_sums-step.auto.span ∙ length-replicate {A = ℕ} 1025 0) _ _ _ (c.window_end-body_end.ensures _ _) (c.window_end-span_end.ensures _ _) c.put_window.ensures _ c.accepted.ensures
+    own_read _ _ _ _ _ c.requires.tested _ _ c.requires.mark_len.1 _ c.loc_window-w.ensures _ c.plan_window-window.ensures _ _ c.copy_slots.ensures _ _ _ c.window_sums.ensures (c.is_none.ensures ∙ ap not c.if-is_none.false) (c.window_sums.auto.body ∙ length-replicate {A = ℕ} 1025 0) (c.window_sums.auto.span ∙ length-replicate {A = ℕ} 1025 0) _ _ _ (c.window_end.ensures _ _) (c.window_end-2.ensures _ _) c.put_window.ensures

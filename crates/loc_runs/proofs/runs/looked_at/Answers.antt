@@ -1,10 +1,12 @@
 -- `loc_runs::runs::looked_at` meets its contract.
-use borrow.Author.Rules.{rules}
-use Rattle.loc_runs.proofs.RunLaws.{looked_paired, looked_single}
+use Rattle.std.proofs.Common.{arith, rules}
+use Rattle.loc_calls.specs.Reading.{looked_at}
 use Rattle.loc_runs.proofs.runs.looked_at.Goals as goal
 
 pub returns-in-Paired : goal.returns-in-Paired
-returns-in-Paired c = search (rules, looked_paired)
+unfolding looked_at
+returns-in-Paired c = rw c.in-Paired.is (omega arith)
 
 pub returns-in-Single : goal.returns-in-Single
-returns-in-Single c = search (rules, looked_single)
+unfolding looked_at
+returns-in-Single c = rw c.in-Single.is (search rules)

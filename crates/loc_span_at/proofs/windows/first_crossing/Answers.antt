@@ -1,30 +1,26 @@
 -- `loc_span_at::windows::first_crossing` meets its contract.
-use mathlib.Core.Path.{sym, ◌∙◌}
+use Prim.Native.Nat.{◌/◌}
+use mathlib.Core.Path.{◌≡◌, sym, ap, ◌∙◌}
 use native.Mathlib.Omega.{arith}
 use borrow.Author.Rules.{rules}
-use Rattle.loc_span_at.proofs.CallLaws.{found_none, found_stays, found_21, found_next}
-use Rattle.loc_span_at.proofs.WindowLaws.{hold_start, quarter_holding, none_there, held_there}
+use Rattle.loc_leaf.specs.declared.Kind.TheVariants.{Paired}
+use Rattle.loc_calls.specs.Lent.{seen}
+use Rattle.loc_calls.specs.Reading.{window_end}
+use Rattle.loc_span_at.proofs.CallLaws.{found_ok, found_err, found_none, found_stays, found_21, found_next}
+use Rattle.loc_span_at.proofs.WindowLaws.{hold_start, none_there, held_there}
 use Rattle.loc_span_at.proofs.windows.first_crossing.Goals as goal
 
-pub returns-then-found-eq-ACCEPTED : goal.returns-then-found-eq-ACCEPTED
-returns-then-found-eq-ACCEPTED c = found_stays _ _ _ _ c.requires.found_value _ (omega arith)
+pub returns-then-is_ok : goal.returns-then-is_ok
+returns-then-is_ok c = found_stays _ _ _ _ c.requires.found_value _ (found_ok c.args.found _ c.is_ok.ensures.value c.if-is_ok.true)
 
-pub window_end-start-requires : goal.window_end-start-requires
-window_end-start-requires c = (omega arith, omega (arith, c.requires.quarter.0.ready.low))
-
-pub overflow_sub-at : goal.overflow_sub-at
-overflow_sub-at c = hold_start _ _ _ _ (sym c.spans_hold.ensures ∙ c.if-spans_hold.true)
-
-pub overflow_mul-part : goal.overflow_mul-part
-overflow_mul-part c = omega (arith, c.requires.quarter.0.ready.low)
-
-pub find-found_span-requires : goal.find-found_span-requires
-find-found_span-requires c = (quarter_holding _ _ c.args.checkpoints.now _ _ _ _ _ _ _ _ c.requires.quarter.0 (search rules) (sym c.spans_hold.ensures ∙ c.if-spans_hold.true), c.requires.quarter.1)
-
-pub returns-then-spans_hold : goal.returns-then-spans_hold
-returns-then-spans_hold c =
-    found_next _ _ _ _ c.requires.found_value _ (λ e. omega arith) _ (held_there _ _ _ _ _ _ _ _ _ c.requires.quarter.0 (c.window_end-start.ensures _ _ (omega arith)) (search rules) (search rules) (hold_start _ _ _ _ (sym c.spans_hold.ensures ∙ c.if-spans_hold.true)) _ (c.find-found_span.ensures _))
+pub returns-then-not-spans_hold : goal.returns-then-not-spans_hold
+returns-then-not-spans_hold c =
+    let none = found_err c.args.found _ c.is_ok.ensures.value c.if-is_ok.false in
+    let e : c.args.p.base / 1024 ≡ c.args.p.base / 256 / 4 = omega arith in
+    found_next _ _ _ _ c.requires.found_value _ none _ (found_21 _ _ _ _ c.requires.found_value none ∙ none_there _ _ _ _ _ _ _ _ _ c.requires.quarter.0 (c.window_end-start.ensures _ _ (omega arith) ∙ ap (window_end Paired (seen c.args.a) 8) e) (search rules) (search rules) (found_none _ _ _ _ c.requires.found_value none) (sym c.spans_hold.ensures ∙ c.if-not-spans_hold.true))
 
 pub returns : goal.returns
 returns c =
-    found_next _ _ _ _ c.requires.found_value _ (λ e. omega arith) _ (found_21 _ _ _ _ c.requires.found_value (λ e. omega arith) ∙ none_there _ _ _ _ _ _ _ _ _ c.requires.quarter.0 (c.window_end-start.ensures _ _ (omega arith)) (search rules) (search rules) (found_none _ _ _ _ c.requires.found_value (λ e. omega arith)) (sym c.spans_hold.ensures ∙ c.if-spans_hold.false))
+    let none = found_err c.args.found _ c.is_ok.ensures.value c.if-is_ok.false in
+    let e : c.args.p.base / 1024 ≡ c.args.p.base / 256 / 4 = omega arith in
+    found_next _ _ _ _ c.requires.found_value _ none _ (held_there _ _ _ _ _ _ _ _ _ c.requires.quarter.0 (c.window_end-start.ensures _ _ (omega arith) ∙ ap (window_end Paired (seen c.args.a) 8) e) (search rules) (search rules) (hold_start _ _ _ _ (sym c.spans_hold.ensures ∙ c.if-not-spans_hold.false)) c.find-span.result (rw c.requires.quarter.1 (c.find-span.ensures _)))

@@ -12,12 +12,12 @@ overflow_mul-row_bytes c =
 pub overflow_mul-checkpoint_bytes : goal.overflow_mul-checkpoint_bytes
 overflow_mul-checkpoint_bytes c = omega (arith, checkpoints_room _ _ c.checkpoint_width.ensures.2 c.requires.0)
 
-pub overflow_add-row_end : goal.overflow_add-row_end
-overflow_add-row_end c =
+pub overflow_add-result-2 : goal.overflow_add-result-2
+overflow_add-result-2 c =
     omega (arith, kept_room c.args.kind _ _ _ c.row_width.ensures.0 c.rows_up_to.ensures.1 c.requires.1)
 
-pub overflow_add-checkpoint_end : goal.overflow_add-checkpoint_end
-overflow_add-checkpoint_end c = omega (arith, checkpoints_room _ _ c.checkpoint_width.ensures.2 c.requires.0)
+pub overflow_add-result-3 : goal.overflow_add-result-3
+overflow_add-result-3 c = omega (arith, checkpoints_room _ _ c.checkpoint_width.ensures.2 c.requires.0)
 
 pub returns : goal.returns
 returns c =

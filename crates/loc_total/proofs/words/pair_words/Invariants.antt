@@ -1,11 +1,7 @@
 -- `loc_total::words::pair_words` meets its contract.
 -- The invariant: each lane has the sums of its records of the words so far.
-use Prim.Native.Nat.{◌-◌, ◌≤◌}
 use Rattle.loc_total.specs.Slots.{PairWords}
 use Rattle.loc_total.proofs.words.pair_words.Given as goal
 
 abbrev pub invariant-loop-i : goal.invariant-loop-i
-invariant-loop-i l = (l.i ≤ l.n) × PairWords l.bytes l.i l.x l.y l.z
-
-abbrev pub decreases-loop-i : goal.decreases-loop-i
-decreases-loop-i l = l.n - l.i
+invariant-loop-i l = PairWords l.bytes l.i l.x l.y l.z

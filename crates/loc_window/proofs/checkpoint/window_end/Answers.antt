@@ -1,21 +1,10 @@
 -- `loc_window::checkpoint::window_end` meets its contract.
-use Prim.Native.Nat.{◌-◌}
-use native.Mathlib.Omega.{arith}
 use borrow.Author.Rules.{rules}
-use Rattle.loc_window.proofs.CheckpointLaws.{end_zero, end_some, width_low}
+use Rattle.loc_window.proofs.CheckpointLaws.{end_zero, end_some}
 use Rattle.loc_window.proofs.checkpoint.window_end.Goals as goal
 
 pub returns-then-w-eq0 : goal.returns-then-w-eq0
 returns-then-w-eq0 c = (λ s t h. search (rules, end_zero))
-
-pub overflow_mul-width : goal.overflow_mul-width
-overflow_mul-width c = omega (arith, width_low c.checkpoint_width-width.result (c.args.w - 1) c.checkpoint_width-width.ensures.2)
-
-pub overflow_add-width : goal.overflow_add-width
-overflow_add-width c = omega (arith, width_low c.checkpoint_width-width.result (c.args.w - 1) c.checkpoint_width-width.ensures.2)
-
-pub overflow_add-width-2 : goal.overflow_add-width-2
-overflow_add-width-2 c = omega (arith, width_low c.checkpoint_width-width.result (c.args.w - 1) c.checkpoint_width-width.ensures.2)
 
 pub returns : goal.returns
 returns c = λ s t h. end_some c.args.kind s t c.args.checkpoints.now c.args.at c.args.w c.checkpoint_width-width.result _ c.if-w-eq0.false c.checkpoint_width-width.ensures.0 c.u64_at.ensures h

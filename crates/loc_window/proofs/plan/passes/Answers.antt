@@ -6,4 +6,4 @@ use Rattle.loc_window.proofs.plan.passes.Goals as goal
 
 pub returns : goal.returns
 returns c =
-    counts _ c.requires.0 _ _ _ _ (omega (arith, c.requires.1, rows_count c.args.kind c.args.rows.now)) c.row_number.ensures c.one_if.ensures.0
+    counts _ c.requires.0 _ _ _ _ (omega (arith, c.requires.1, rows_count c.args.kind c.args.rows.now)) c.row_number.ensures c.from.ensures

@@ -2,11 +2,11 @@
 -- The invariant: the sums of the blocks so far, `Summing`.
 use Prim.Native.Nat.{◌+◌, ◌-◌, ◌*◌}
 use lib.ListN.{length}
-use Rattle.loc_window.specs.Window.{sums_of, Summing}
+use Rattle.loc_window.specs.Window.{Summing}
 use Rattle.loc_window.proofs.window.window_sums.Given as goal
 
-abbrev pub invariant-loop-block : goal.invariant-loop-block
-invariant-loop-block l = Summing l.kind (length l.initial.body) l.base l.m l.bytes l.rows l.past l.mark l.stamp l.block (sums_of l.strides l.spans l.passed l.block) l.body l.span
+abbrev pub invariant-loop-s : goal.invariant-loop-s
+invariant-loop-s l = Summing l.w.kind (length l.initial.body) l.w.base l.w.m l.w.bytes.now l.w.rows.now l.w.past l.w.mark.now l.w.stamp l.s.block l.s l.body l.span
 
-abbrev pub decreases-loop-block : goal.decreases-loop-block
-decreases-loop-block l = l.m + 8 - 8 * l.block
+abbrev pub decreases-loop-s : goal.decreases-loop-s
+decreases-loop-s l = l.w.m + 8 - 8 * l.s.block

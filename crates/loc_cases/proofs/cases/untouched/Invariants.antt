@@ -1,9 +1,0 @@
--- `loc_cases::cases::untouched` meets its contract.
-use Prim.Native.Nat.{◌-◌, ◌≤◌}
-use Rattle.loc_cases.proofs.cases.untouched.Given as goal
-
-abbrev pub invariant-loop-i : goal.invariant-loop-i
-invariant-loop-i l = l.i ≤ 32
-
-abbrev pub decreases-loop-i : goal.decreases-loop-i
-decreases-loop-i l = 32 - l.i

@@ -1,9 +1,0 @@
--- `loc_replay::bytes::same` meets its contract.
-use Prim.Native.Nat.{◌-◌, ◌≤◌}
-use Rattle.loc_replay.proofs.bytes.same.Given as goal
-
-abbrev pub invariant-loop-i : goal.invariant-loop-i
-invariant-loop-i l = l.i ≤ l.n
-
-abbrev pub decreases-loop-i : goal.decreases-loop-i
-decreases-loop-i l = l.n - l.i
