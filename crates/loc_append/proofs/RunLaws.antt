@@ -33,9 +33,9 @@ module _ (k : Kind) (b : Batch) (p : ℕ) (a d : Areas) (same : a ≡ d) where
   unfolding is_opening unread
   append_number first e = refusal_after k (append b) a first refl e ∙ ap (λ (n : ℕ). first or_else n) (or_else_zero (table_of k a (append b)))
 
-  pub append_refused : (x : Refusal) → Checks k a (Err x) → Stored (call k p (append b) d) (refused_by (number_of x)) d
+  pub append_refused : (x : Refusal) → number_of x ≡ first_refusal k a → Stored (call k p (append b) d) (refused_by (number_of x)) d
   append_refused x e =
-      rw (← same) (refused k p (append b) a (number_of x) (append_number (number_of x) e.number ∙ or_else_first (number_of x) _ (number_some x)) (number_some x))
+      rw (← same) (refused k p (append b) a (number_of x) (append_number (number_of x) e ∙ or_else_first (number_of x) _ (number_some x)) (number_some x))
 
   module _ (o : Checked) (e : Checks k d (Ok o)) where
     table_number : (n : ℕ) → n ≡ table_of k a (append b) → refusal k (append b) a ≡ n

@@ -79,9 +79,9 @@ fn write_checkpoint(out: &mut [u8], to: usize, kind: Kind, id: u64, e: Record) -
     to + checkpoint_width(kind)
 }
 
-// All records, into the parts of the areas that begin at the published ends; `base` records stand before them.
-// Three slices: the proof of a struct that lends parts of another's slices does not close (the check covers no such loan).
-pub fn write_batch(
+// The loop over the records. It is put in place at each call, where the kind is known, so that no record asks which kind it is of.
+#[inline(always)]
+fn write_records(
     kind: Kind,
     slots: &mut [u8],
     rows: &mut [u8],
@@ -102,6 +102,26 @@ pub fn write_batch(
         slot_to = write_slot(slots, slot_to, kind, e);
         row_to = write_row(rows, row_to, kind, id, e);
         checkpoint_to = write_checkpoint(checkpoints, checkpoint_to, kind, id, e);
+    }
+}
+
+// All records, into the parts of the areas that begin at the published ends; `base` records stand before them.
+// Three slices: the proof of a struct that lends parts of another's slices does not close (the check covers no such loan).
+pub fn write_batch(
+    kind: Kind,
+    slots: &mut [u8],
+    rows: &mut [u8],
+    checkpoints: &mut [u8],
+    b: Batch,
+    base: u64,
+)
+    requires room { Room kind base (batched kind (lists b)) (each length (areas slots.old rows.old checkpoints.old)) }
+    requires holds { Held kind (lists b) (length b.lens.now) }
+    ensures { Staged kind base (batched kind (lists b.entry)) (areas slots.old rows.old checkpoints.old) (areas slots.new rows.new checkpoints.new) }
+{
+    match kind {
+        Kind::Paired => write_records(Kind::Paired, slots, rows, checkpoints, b, base),
+        Kind::Single => write_records(Kind::Single, slots, rows, checkpoints, b, base),
     }
 }
 

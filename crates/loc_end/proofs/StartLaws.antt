@@ -43,7 +43,7 @@ module _ (k : Kind) (c : Bytes) (w n r : ℕ) where
 -- ---- the last window
 
 module _ (k : Kind) (a : Areas) (n w f m : ℕ) (ok : first_refusal k a ≡ 0) (en : n ≡ fill 2 a.slots) (ew : w ≡ window_of n) (ef : f ≡ 1024 * w) (em : m ≡ n - f) where
-  slots_hold_lem : 16 + 2 * n ≤ length a.slots
+  pub slots_hold_lem : 16 + 2 * n ≤ length a.slots
   unfolding fill
   slots_hold_lem = omega (arith, counted_le a.slots, (accepted_sized k a (sym ok)).slots_hold)
 

@@ -16,7 +16,7 @@ use Rattle.loc_store.specs.declared.Checked.{Checked}
 use Rattle.loc_store.specs.Areas.{Checks}
 use Rattle.loc_parse.specs.Lines.{Parsed, parsed_as, parsed}
 use Rattle.loc_parse.specs.Import.{listing_refusal, append_listing}
-use Rattle.loc_parse.specs.Lists.{Took}
+use Rattle.loc_parse.specs.Lists.{Filled}
 use Rattle.loc_parse.proofs.ImportLaws.{listing_refused, listing_appended}
 
 -- the areas a are read, and d are the same lent to be stored to
@@ -34,10 +34,10 @@ module _ (p : ℕ) (xs : List ℕ) (a d : Areas) (same : a ≡ d) where
     unfolding listing_refusal
     text_number n b q = rw (← e.number) (ap (λ (t : Parsed). t.number) (text_is n b q))
 
-    pub text_refused : (x : Refusal) (b : Batch) → Took (parsed f.count xs) (Err x) b → Stored (append_listing p xs d) (refused_by (number_of x)) d
+    pub text_refused : (x : Refusal) (b : Batch) → Filled (parsed f.count xs) (Err x) b → Stored (append_listing p xs d) (refused_by (number_of x)) d
     text_refused x b o = rw (← same) (listing_refused p xs a (number_of x) (text_number _ b o.same) (number_some x))
 
-    pub text_appended : (b c : Batch) → Took (parsed f.count xs) (Ok tt) b → c ≡ b → (r : Answer) (y : Areas) → Stored (call Paired p (append c) d) r y
+    pub text_appended : (b c : Batch) → Filled (parsed f.count xs) (Ok tt) b → c ≡ b → (r : Answer) (y : Areas) → Stored (call Paired p (append c) d) r y
         → Stored (append_listing p xs d) r y
     text_appended b c o q r y s =
         rw (← same, listing_appended p xs a (text_number 0 b o.same), ap (λ (t : Parsed). t.batch) (text_is 0 b o.same), ← q) (rw (← same) at s)

@@ -11,7 +11,6 @@ use loc_append::run::append_settled;
 use loc_calls::AreasMut;
 use loc_leaf::Kind;
 use loc_leaf::refusal::Refusal;
-use loc_parse::lines::parse;
 use loc_parse::lists::Lists;
 use loc_store::check::check_areas;
 
@@ -21,6 +20,6 @@ pub fn append_listing_run(areas: &mut AreasMut, text: &[u8], places: u64) -> Res
 {
     let found = check_areas(Kind::Paired, areas.shared())?;
     let mut lists = Lists::new();
-    parse(found.count, text, &mut lists)?;
+    lists.parse(found.count, text)?;
     append_settled(Kind::Paired, areas, found, lists.batch(), places)
 }

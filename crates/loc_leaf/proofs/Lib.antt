@@ -11,4 +11,5 @@ pub mod QuarterLaws
 pub mod Lanes
 pub mod BlockLaws
 pub mod MaskLaws
+pub mod SliceLaws
 pub mod Starred

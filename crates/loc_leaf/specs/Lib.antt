@@ -7,4 +7,5 @@ pub mod Rows
 pub mod Cut
 pub mod Quarters
 pub mod Block
+pub mod Slices
 pub mod Starred

@@ -6,6 +6,7 @@ pub mod delta_loc;
 pub mod file;
 pub mod loc_simd;
 pub mod refusal;
+pub mod slices;
 
 // Paired: strides and span counts (`create_loc`). Single: strides alone (`delta_loc`).
 #[derive(Clone, Copy)]

@@ -134,7 +134,7 @@ module _ (ns out : List ℕ) where
   unfolding line_text
   line_part at ys r h p = put_part out at (line ns) ys r (rw (part_long out at, le-leb 126 (length out - at) h) at p)
 
-fit_room : (first words n room : ℕ) → fits first words n room ≡ true → 126 * n ≤ room
+pub fit_room : (first words n room : ℕ) → fits first words n room ≡ true → 126 * n ≤ room
 unfolding fits
 fit_room first words n room e = grind (arith, nat_tests)
 

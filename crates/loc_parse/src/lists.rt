@@ -1,13 +1,14 @@
 // The four lists of a batch of at most 1,024 records, as a text fills them.
 // Clauses see the batch.
-ghost use Rattle.std.specs.Prelude.{◌≡◌, ◌≤◌, ◌<◌, length};
+ghost use Rattle.std.specs.Prelude.{◌≡◌, ◌+◌, ◌≤◌, ◌<◌, ◌^◌};
 ghost use Rattle.loc_calls.specs.Lent.{lists};
 ghost use Rattle.loc_calls.specs.Table.{Batch};
-ghost use Rattle.loc_parse.specs.Lines.{added, empty};
-ghost use Rattle.loc_parse.specs.Lists.{firsts};
+ghost use Rattle.loc_parse.specs.Lines.{empty, parsed};
+ghost use Rattle.loc_parse.specs.Lists.{firsts, Filled};
 
-use crate::Fields;
+use crate::lines::parse;
 use loc_calls::Batch;
+use loc_leaf::refusal::Refusal;
 use std::marker::Model;
 
 #[derive(Drop)]
@@ -40,21 +41,29 @@ impl Lists {
         }
     }
 
-    pub fn clear(&mut self)
-        ensures { self.new ≡ empty }
+    // A whole text for an index of `count` records: 18, 19 or 20, or its batch.
+    pub fn parse(&mut self, count: u64, text: &[u8]) -> Result<(), Refusal>
+        requires { count + 1025 < 2 ^ 64 }
+        ensures { Filled (parsed count text.now) result self.new }
     {
-        self.records = 0;
-    }
-
-    pub fn push(&mut self, f: Fields)
-        requires { length self.old.starts < 1024 }
-        ensures { self.new ≡ added self.old f }
-    {
-        self.starts[self.records] = f.start;
-        self.lens[self.records] = f.len;
-        self.span_starts[self.records] = f.span_start;
-        self.span_counts[self.records] = f.spans;
-        self.records += 1;
+        let taken = parse(
+            count,
+            text,
+            &mut self.starts,
+            &mut self.lens,
+            &mut self.span_starts,
+            &mut self.span_counts,
+        );
+        match taken {
+            Ok(records) => {
+                self.records = records;
+                Ok(())
+            }
+            Err(refused) => {
+                self.records = refused.records;
+                Err(refused.refusal)
+            }
+        }
     }
 
     pub fn batch(&self) -> Batch<'_>

@@ -14,6 +14,7 @@ use crate::pass::needed_records;
 use loc_calls::Areas;
 use loc_leaf::Kind;
 use loc_leaf::refusal::Refusal;
+use loc_leaf::slices::copy;
 use loc_store::check::check_areas;
 
 // 16, or the answers, in arrays that are long enough.
@@ -32,7 +33,7 @@ fn put_with(
     if answers.len() < n {
         return Err(Refusal::AnswersTooShort);
     }
-    answers[..n].copy_from_slice(&list[..n]);
+    copy(&list[..n], &mut answers[..n]);
     Ok(n as u64)
 }
 

@@ -160,7 +160,7 @@ fn sort_distinct(numbers: &mut [u64], out: &mut [u64]) -> usize
 }
 
 // The records that a record needs, at the front of `list`; the answer is how many.
-pub(crate) fn needed_records(
+pub fn needed_records(
     pairs: Pairs,
     record: u64,
     marks: &mut [bool],

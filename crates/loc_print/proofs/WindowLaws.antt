@@ -21,7 +21,7 @@ use Rattle.loc_calls.proofs.Outcomes.{refusal_after}
 use Rattle.loc_calls.proofs.Refused.{number_is}
 use Rattle.loc_listing.specs.Text.{names, refused_line, fits, names_text, window_text, refused_text, Put}
 use Rattle.loc_listing.specs.Listing.{line_for, lines_after}
-use Rattle.loc_listing.proofs.TextLaws.{put_then, put_nothing, put_part, part_long}
+use Rattle.loc_listing.proofs.TextLaws.{put_then, put_nothing, put_part}
 use Rattle.loc_print.specs.Printed.{numbers_after, window_refusal, window_lines, window_size, windows_from, window_count, printed, listing_text}
 use Rattle.loc_print.proofs.ReadingLaws.{numbers_long, words_at, lines_of}
 
@@ -56,6 +56,25 @@ module _ (a : Areas) (m n : ℕ) (few : n ≤ 1024) (old : List ℕ) (room : 6 *
               le-leb (6 * n) (length ws) (omega arith),
               lt-ltb (m + 1 + n) (2 ^ 64) last,
             ) (lines_of a m ws n (λ i h. rw (read_words z) (words_at a m n old i h)))
+
+-- what is put of a window: its lines, or the line of its refusal
+
+refused_old : (new old : List ℕ) (i : ℕ) → (i ≡ 0 → ⊥) → unless_refused i new old ≡ old
+unfolding unless_refused
+refused_old new old zero f = absurd (f refl)
+refused_old new old (suc i) f = refl
+
+lines_are : (a : Areas) (m n : ℕ) → window_refusal a m n ≡ 0 → window_lines a m n ≡ lines_after a m n
+unfolding window_lines unless_refused
+lines_are a m n z = rw z refl
+
+module _ (a : Areas) (m n : ℕ) (out out₁ : List ℕ) (k : ℕ) where
+  pub window_put : window_refusal a m n ≡ 0 → Put out 0 (lines_after a m n) out₁ k → Put out 0 (window_lines a m n) out₁ k
+  window_put z w = rw (lines_are a m n z) w
+
+  pub refusal_put : (i : ℕ) → i ≡ window_refusal a m n → (i ≡ 0 → ⊥) → 29 ≤ length out → Put out 0 (refused_text i (length out)) out₁ k → Put out 0 (window_lines a m n) out₁ k
+  unfolding window_lines refused_text
+  refusal_put i e f room w = rw (← e, refused_old (lines_after a m n) (refused_line i) i f) (rw (le-leb 29 (length out) room) at w)
 
 -- ---- windows
 
@@ -103,37 +122,30 @@ module _ (s r c : Bytes) (total : ℕ) (known : total ≡ fill 2 s) where
     unfolding windows_from
     next = left ∙ rw one_more (ap (λ (i : ℕ). lines_after whole 0 done ++ (window_lines whole done i ++ unless_refused (window_refusal whole done i) (windows_from whole (done + i) (window_count (count whole - (done + n)))) [])) size_is)
 
-    module _ (out out₁ : List ℕ) (p at : ℕ) (sofar : Put out p (lines_after whole 0 done) out₁ at) where
-      -- the last window: what is put behind is the line of its refusal
-      pub turn_refused : (i : ℕ) → i ≡ window_refusal whole done n → (i ≡ 0 → ⊥) → 29 ≤ length out₁ - at → (ys : List ℕ) (k : ℕ)
-          → Put (take (length out₁ - at) (drop at out₁)) 0 (refused_text i (length (take (length out₁ - at) (drop at out₁)))) ys k
-          → Put out p (windows_from whole 0 (window_count (count whole))) (put_mid at (length out₁ - at) out₁ ys) (at + k)
-      unfolding window_lines unless_refused refused_text
-      turn_refused zero e f room ys k w = absurd (f refl)
-      turn_refused (suc i) e f room ys k w =
-          subst (λ (x : List ℕ). Put out p x (put_mid at (length out₁ - at) out₁ ys) (at + k)) (sym (next ∙ ended))
-          (put_then _ _ sofar (put_part out₁ at (refused_line (suc i)) ys k (rw (part_long out₁ at, le-leb 29 (length out₁ - at) room) at w)))
+    module _ (z : window_refusal whole done n ≡ 0) where
+      pub turn_left : Left whole (done + n)
+      unfolding unless_refused
+      turn_left =
+          next
+          ∙ rw (lines_are whole done n z, z) (sym (append_assoc (lines_after whole 0 done) (lines_after whole done n) (windows_from whole (done + n) (window_count (count whole - (done + n))))))
+          ∙ ap (λ (x : List ℕ). x ++ windows_from whole (done + n) (window_count (count whole - (done + n)))) (sym (lines_join whole done n))
+
+    module _ (out out₁ : List ℕ) (p at : ℕ) (sofar : Put out p (lines_after whole 0 done) out₁ at) (ys : List ℕ) (k : ℕ)
+        (w : Put (take (length out₁ - at) (drop at out₁)) 0 (window_lines whole done n) ys k) where
+      then_window : Put out p (lines_after whole 0 done ++ window_lines whole done n) (put_mid at (length out₁ - at) out₁ ys) (at + k)
+      then_window = put_then _ _ sofar (put_part out₁ at (window_lines whole done n) ys k w)
+
+      -- the last window: nothing is put after the line of its refusal
+      pub turn_refused : (window_refusal whole done n ≡ 0 → ⊥) → Put out p (windows_from whole 0 (window_count (count whole))) (put_mid at (length out₁ - at) out₁ ys) (at + k)
+      turn_refused f = subst (λ (x : List ℕ). Put out p x (put_mid at (length out₁ - at) out₁ ys) (at + k)) (sym (next ∙ ended)) then_window
         where
           ended : lines_after whole 0 done ++ (window_lines whole done n ++ unless_refused (window_refusal whole done n) (windows_from whole (done + n) (window_count (count whole - (done + n)))) [])
-              ≡ lines_after whole 0 done ++ refused_line (suc i)
-          ended = rw (← e, append-nil) refl
+              ≡ lines_after whole 0 done ++ window_lines whole done n
+          ended = rw (refused_old _ _ (window_refusal whole done n) f, append-nil) refl
 
-      module _ (z : 0 ≡ window_refusal whole done n) where
-        lines_are : window_lines whole done n ≡ lines_after whole done n
-        unfolding window_lines unless_refused
-        lines_are = rw (← z) refl
-
-        pub turn_put : (ys : List ℕ) (k : ℕ) → Put (take (length out₁ - at) (drop at out₁)) 0 (lines_after whole done n) ys k
-            → Put out p (lines_after whole 0 (done + n)) (put_mid at (length out₁ - at) out₁ ys) (at + k)
-        turn_put ys k w =
-            subst (λ (x : List ℕ). Put out p x (put_mid at (length out₁ - at) out₁ ys) (at + k)) (sym (lines_join whole done n)) (put_then _ _ sofar (put_part out₁ at (lines_after whole done n) ys k w))
-
-        pub turn_left : Left whole (done + n)
-        unfolding unless_refused
-        turn_left =
-            next
-            ∙ rw (lines_are, ← z) (sym (append_assoc (lines_after whole 0 done) (lines_after whole done n) (windows_from whole (done + n) (window_count (count whole - (done + n))))))
-            ∙ ap (λ (x : List ℕ). x ++ windows_from whole (done + n) (window_count (count whole - (done + n)))) (sym (lines_join whole done n))
+      pub turn_put : window_refusal whole done n ≡ 0 → Put out p (lines_after whole 0 (done + n)) (put_mid at (length out₁ - at) out₁ ys) (at + k)
+      turn_put z =
+          subst (λ (x : List ℕ). Put out p x (put_mid at (length out₁ - at) out₁ ys) (at + k)) (sym (lines_join whole done n ∙ ap (λ (x : List ℕ). lines_after whole 0 done ++ x) (sym (lines_are whole done n z)))) then_window
 
   -- no window left
   nothing_left : (done : ℕ) → total ≤ done → Left whole done → windows_from whole 0 (window_count (count whole)) ≡ lines_after whole 0 done

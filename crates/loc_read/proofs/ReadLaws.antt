@@ -39,7 +39,7 @@ straight x old new long same =
     (λ i h. get_or-drop x new i 0 ∙ same (x + i) (omega arith) ∙ sym (get_or-drop x old i 0)))
 
 -- what the walk asks
-readable : (k : Kind) (a : Areas) (f : Checked) → 0 ≡ first_refusal k a → Finds k a f → length a.slots < 2 ^ 64 → Readable k a f.count f.row_count
+pub readable : (k : Kind) (a : Areas) (f : Checked) → 0 ≡ first_refusal k a → Finds k a f → length a.slots < 2 ^ 64 → Readable k a f.count f.row_count
 unfolding count
 readable k a f z e l =
     record {

@@ -15,6 +15,7 @@ use loc_answer::words::word_width;
 use loc_calls::Areas;
 use loc_leaf::Kind;
 use loc_leaf::refusal::Refusal;
+use loc_leaf::slices::copy;
 use loc_order::keys::plan_range_batch;
 use loc_runs::runs::one_window;
 use loc_store::Checked;
@@ -38,7 +39,7 @@ fn read_with(
     let n = plan_range_batch(wanted, found.count, keys, spare);
     finish_range_batch(kind, a, found, wanted, &keys[..n], stage)?;
     let words = word_width(kind) * wanted.len();
-    answers[..words].copy_from_slice(&stage[..words]);
+    copy(&stage[..words], &mut answers[..words]);
     Ok(n as u64)
 }
 

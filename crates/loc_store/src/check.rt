@@ -10,7 +10,7 @@ ghost use Rattle.loc_calls.specs.Calls.{too_small};
 ghost use Rattle.loc_store.specs.Areas.{HoldHeaders, Publishes, Checks};
 
 use crate::plan::{cut_count, number_before};
-use crate::{Checked, Published};
+use crate::{Checked, Published, Refused};
 use loc_calls::Areas;
 use loc_leaf::Kind;
 use loc_leaf::delta_loc::{LOC_WINDOW, checkpoint_width, row_width};
@@ -38,7 +38,9 @@ pub fn published_areas(kind: Kind, a: Areas) -> Published
     }
 }
 
-// 2 to 5 in order.
+// 2 to 5 in order. A function of its own in the archive too: put in its place in an opening, its loop over the rows
+// had too few registers, and took 10 instructions a row in place of 7.
+#[inline(never)]
 #[tactic(auto, unfolding(loc_calls::specs::Stores::open_refusal, loc_calls::specs::Stores::ragged))]
 pub fn open_refusal(kind: Kind, rows: &[u8], p: Published) -> Result<(), Refusal>
     ensures { (s c : Bytes) → Publishes kind (areas s rows.now c) p → refusal_of result ≡ open_refusal kind (areas s rows.now c) }
@@ -77,21 +79,24 @@ fn settled(kind: Kind, a: Areas, p: Published) -> bool
     last <= count && cut_count(kind, a.slots, a.rows, count, end, last) == count
 }
 
-// 1, then 6: what every call but creation and opening begins with.
-pub fn check_areas(kind: Kind, a: Areas) -> Result<Checked, Refusal>
+// 1, then 6: what every call but creation and opening begins with. What the areas publish is found of refused ones, too.
+pub fn check_areas(kind: Kind, a: Areas) -> Result<Checked, Refused>
     ensures { Checks kind (seen a.entry) result }
 {
-    if too_small(a) {
-        return Err(Refusal::AreaTooSmall);
-    }
     let p = published_areas(kind, a);
+    let found = Checked {
+        count: p.slots.count as u64,
+        row_count: p.rows.count,
+        ends: p.ends(),
+    };
+    if too_small(a) {
+        let refusal = Refusal::AreaTooSmall;
+        return Err(Refused { found, refusal });
+    }
     if settled(kind, a, p) {
-        Ok(Checked {
-            count: p.slots.count as u64,
-            row_count: p.rows.count,
-            ends: p.ends(),
-        })
+        Ok(found)
     } else {
-        Err(Refusal::NotOpened)
+        let refusal = Refusal::NotOpened;
+        Err(Refused { found, refusal })
     }
 }

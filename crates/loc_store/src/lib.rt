@@ -12,6 +12,7 @@ pub mod store;
 pub mod truncate;
 
 use loc_leaf::file::Pieces;
+use loc_leaf::refusal::Refusal;
 
 // The published lengths of the three areas.
 #[derive(Clone, Copy)]
@@ -42,12 +43,29 @@ impl Published {
     }
 }
 
-// What the check of a call finds of areas that it does not refuse: how many records and rows are published, and up to where.
+// What the check of a call finds of the areas: how many records and rows are published, and up to where.
 #[derive(Clone, Copy)]
 pub struct Checked {
     pub count: u64,
     pub row_count: usize,
     pub ends: Lengths,
+}
+
+// Areas that the check refuses: what is found of them all the same, and by what.
+// In this order what is found stands at one place of a `Result`, whichever it is; else the compiler puts the count together by bytes.
+#[derive(Clone, Copy)]
+pub struct Refused {
+    pub found: Checked,
+    pub refusal: Refusal,
+}
+
+// A call that hands it on by `?` gives the refusal.
+impl From<Refused> for Refusal {
+    ghost from_gives = { λ e r. r ≡ e.refusal };
+
+    fn from(e: Refused) -> Refusal {
+        e.refusal
+    }
 }
 
 // The lengths of an opening's two truncations: by the checkpoint rule, then by the cut rule.

@@ -7,6 +7,7 @@ use crate::blocks::blocks;
 use crate::records::records;
 use crate::{LentWindow, Sums};
 use loc_leaf::Kind;
+use loc_leaf::slices::copy;
 
 // Where the marked blocks from one on end, of `most` blocks.
 fn marked_end(mark: &[u64], stamp: u64, from: usize, most: usize) -> usize
@@ -79,5 +80,5 @@ pub fn copy_slots(slots: &[u8], at: usize, n: usize, out: &mut [u8])
     requires { (at + n ≤ length slots.now) × (n ≤ length out.old) }
     ensures { Copied slots.now at n out.old out.new }
 {
-    out[..n].copy_from_slice(&slots[at..at + n]);
+    copy(&slots[at..at + n], &mut out[..n]);
 }

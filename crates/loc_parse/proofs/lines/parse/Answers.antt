@@ -5,7 +5,7 @@ use Rattle.loc_parse.proofs.lines.parse.Goals as goal
 
 pub returns-then-not-has_names : goal.returns-then-not-has_names
 unfolding parsed
-returns-then-not-has_names c = record { same = grind arith; few = rw c.clear.ensures (omega arith) }
+returns-then-not-has_names c = record { same = grind arith; few = omega arith }
 
 pub returns : goal.returns
 unfolding parsed

@@ -1,10 +1,10 @@
--- `staging::write_batch` meets its contract.
+-- `staging::write_records` meets its contract.
 use Rattle.std.specs.Prelude.{length}
 use Rattle.loc_calls.specs.Lent.{lists}
 use Rattle.loc_calls.specs.Areas.{areas}
 use Rattle.loc_batch.proofs.StageLaws.{Writing}
 use Rattle.loc_batch.specs.Lists.{entry_at}
-use Rattle.loc_batch.proofs.staging.write_batch.Given as goal
+use Rattle.loc_batch.proofs.staging.write_records.Given as goal
 
 abbrev pub invariant-loop-i : goal.invariant-loop-i
 invariant-loop-i l =

@@ -1,4 +1,4 @@
--- `staging::write_batch` meets its contract.
+-- `staging::write_records` meets its contract.
 use mathlib.Core.Path.{refl}
 use native.Mathlib.Omega.{arith}
 use lib.ListN.{length}
@@ -6,7 +6,7 @@ use Rattle.loc_calls.specs.Lent.{lists}
 use Rattle.loc_batch.proofs.BatchLaws.{length_listed}
 use Rattle.loc_batch.proofs.StageLaws.{writing_begin, writing_end, writing_sound, writing_slot, writing_row, writing_checkpoint, writing_turn}
 use Rattle.loc_batch.specs.Lists.{entry_at, as_entry}
-use Rattle.loc_batch.proofs.staging.write_batch.Goals as goal
+use Rattle.loc_batch.proofs.staging.write_records.Goals as goal
 
 pub loop-i-init : goal.loop-i-init
 loop-i-init c = writing_begin _ _ _ _ _ c.requires.room
