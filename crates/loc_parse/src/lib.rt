@@ -5,6 +5,8 @@
 pub mod form;
 pub mod lines;
 pub mod lists;
+#[cfg(test)]
+mod tests;
 
 use loc_leaf::refusal::Refusal;
 

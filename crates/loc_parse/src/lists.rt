@@ -1,11 +1,12 @@
 // The four lists of a batch of at most 1,024 records, as a text fills them.
 // Clauses see the batch.
-ghost use Rattle.std.specs.Prelude.{◌≡◌, ◌+◌, ◌≤◌, ◌<◌, ◌^◌};
+ghost use Rattle.std.specs.Prelude.{◌≡◌, ◌+◌, ◌≤◌, ◌<◌, ◌^◌, length};
 ghost use Rattle.loc_calls.specs.Lent.{lists};
 ghost use Rattle.loc_calls.specs.Table.{Batch};
-ghost use Rattle.loc_parse.specs.Lines.{empty, parsed};
+ghost use Rattle.loc_parse.specs.Lines.{added, empty, parsed};
 ghost use Rattle.loc_parse.specs.Lists.{firsts, Filled};
 
+use crate::Fields;
 use crate::lines::parse;
 use loc_calls::Batch;
 use loc_leaf::refusal::Refusal;
@@ -39,6 +40,18 @@ impl Lists {
             span_counts: [0; 1024],
             records: 0,
         }
+    }
+
+    // A record more, from a line's numbers, for a caller that reads line by line: `parse` stores in slices.
+    pub fn push(&mut self, f: Fields)
+        requires { length self.old.starts < 1024 }
+        ensures { self.new ≡ added self.old f }
+    {
+        self.starts[self.records] = f.start;
+        self.lens[self.records] = f.len;
+        self.span_starts[self.records] = f.span_start;
+        self.span_counts[self.records] = f.spans;
+        self.records += 1;
     }
 
     // A whole text for an index of `count` records: 18, 19 or 20, or its batch.
